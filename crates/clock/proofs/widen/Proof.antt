@@ -1,0 +1,46 @@
+-- `clock::widen`: above the range, backward, out of the range, the new time.
+use borrow.Author.Needs.{needs}
+use Rattle.clock.proofs.Laws.{clock-above, clock-back, clock-far, clock-widens}
+use Rattle.clock.proofs.widen.Statement.{statement}
+use Rattle.clock.proofs.widen.Tie as tie
+
+returns : tie.Need-returns
+returns c = search clock-above
+
+cast-low : tie.Need-cast-low
+cast-low c = search needs
+
+wrapping-sub-u32-requires : tie.Need-wrapping-sub-u32-requires
+wrapping-sub-u32-requires c κs = search needs
+
+signed-step-requires : tie.Need-signed-step-requires
+signed-step-requires c κs = search needs
+
+returns-2 : tie.Need-returns-2
+returns-2 c = search clock-back
+
+cast-time : tie.Need-cast-time
+cast-time c = search needs
+
+add-time : tie.Need-add-time
+add-time c = search needs
+
+returns-3 : tie.Need-returns-3
+returns-3 c = search clock-far
+
+returns-4 : tie.Need-returns-4
+returns-4 c = search clock-widens
+
+pub widen-spec : {M : Type 1} → statement M
+widen-spec =
+    tie.close
+    (tie.spec
+    returns
+    cast-low
+    wrapping-sub-u32-requires
+    signed-step-requires
+    returns-2
+    cast-time
+    add-time
+    returns-3
+    returns-4)

@@ -1,0 +1,78 @@
+-- A report says which answer was given: no two answers have the same numbers and values.
+use Prim.Native.Nat.{ℕ, zero, suc, _-_}
+use mathlib.Core.Path.{_≡_, refl, sym, ap, ap₂, _∙_}
+use mathlib.Core.List.{List, [], _∷_}
+use lib.ListN.{getD}
+use Rattle.rules.specs.Answers.{refusalNumber, Report, refused, accepted, reported, leaves}
+use Rattle.rules.specs.Frame.{readReport, writeReport}
+use Rattle.rules.specs.Clock.{ClockReport, clockReport}
+use Rattle.rules.specs.declared.Refusal.{Refusal}
+use Rattle.rules.specs.declared.Refusal.the-variants.{StateNotSound, HardwareNotAllowed, TimeAboveRange, TimeBelowLatest, BufferTooShort, PacketTooShort, NotArp, AddressNotAllowed, PolicyUnknown, AddressHeld, NoSlotFree, TooManyRequests, SlotNotHeld, LineMalformed}
+use Rattle.rules.specs.declared.ReadAnswer.{ReadAnswer}
+use Rattle.rules.specs.declared.ReadAnswer.the-variants as ReadAnswer
+use Rattle.rules.specs.declared.WriteAnswer.{WriteAnswer}
+use Rattle.rules.specs.declared.WriteAnswer.the-variants as WriteAnswer
+use Rattle.rules.specs.declared.ClockAnswer.{ClockAnswer}
+use Rattle.rules.specs.declared.ClockAnswer.the-variants as ClockAnswer
+
+-- The refusals in the order of their numbers, and the one with a number.
+refusals : List Refusal
+refusals =
+    StateNotSound ∷ HardwareNotAllowed ∷ TimeAboveRange ∷ TimeBelowLatest ∷ BufferTooShort ∷ PacketTooShort ∷ NotArp
+    ∷ AddressNotAllowed ∷ PolicyUnknown ∷ AddressHeld ∷ NoSlotFree ∷ TooManyRequests ∷ SlotNotHeld ∷ LineMalformed ∷ []
+
+numbered : ℕ → Refusal
+numbered n = getD refusals (n - 1) StateNotSound
+
+numbered-number : (r : Refusal) → numbered (refusalNumber r) ≡ r
+unfolding refusals numbered
+numbered-number StateNotSound = refl
+numbered-number HardwareNotAllowed = refl
+numbered-number TimeAboveRange = refl
+numbered-number TimeBelowLatest = refl
+numbered-number BufferTooShort = refl
+numbered-number PacketTooShort = refl
+numbered-number NotArp = refl
+numbered-number AddressNotAllowed = refl
+numbered-number PolicyUnknown = refl
+numbered-number AddressHeld = refl
+numbered-number NoSlotFree = refl
+numbered-number TooManyRequests = refl
+numbered-number SlotNotHeld = refl
+numbered-number LineMalformed = refl
+
+pub number-tells : (r s : Refusal) → refusalNumber r ≡ refusalNumber s → r ≡ s
+number-tells r s e = sym (numbered-number r) ∙ ap numbered e ∙ numbered-number s
+
+pub read-tells : (r s : ReadAnswer) → readReport r ≡ readReport s → r ≡ s
+read-tells (ReadAnswer.Refused r) (ReadAnswer.Refused s) e = ap ReadAnswer.Refused (number-tells r s (cc))
+read-tells (ReadAnswer.Refused r) (ReadAnswer.Read g) e = cc
+read-tells (ReadAnswer.Read f) (ReadAnswer.Refused s) e = cc
+read-tells (ReadAnswer.Read f) (ReadAnswer.Read g) e = cc
+
+pub write-tells : (r s : WriteAnswer) → writeReport r ≡ writeReport s → r ≡ s
+write-tells (WriteAnswer.Refused r) (WriteAnswer.Refused s) e = ap WriteAnswer.Refused (number-tells r s (cc))
+write-tells (WriteAnswer.Refused r) WriteAnswer.Written e = cc
+write-tells WriteAnswer.Written (WriteAnswer.Refused s) e = cc
+write-tells WriteAnswer.Written WriteAnswer.Written e = refl
+
+pub clock-tells : (r s : ClockAnswer) → clockReport r ≡ clockReport s → r ≡ s
+clock-tells (ClockAnswer.Refused r a) (ClockAnswer.Refused s b) e =
+    let time = ap (λ (c : ClockReport). c .time) e in
+    ap₂ ClockAnswer.Refused (number-tells r s (cc)) (ap (λ (c : ClockReport). c .step) e)
+clock-tells (ClockAnswer.Refused r a) (ClockAnswer.Widened t b) e = let time = ap (λ (c : ClockReport). c .time) e in cc
+clock-tells (ClockAnswer.Widened t a) (ClockAnswer.Refused s b) e = let time = ap (λ (c : ClockReport). c .time) e in cc
+clock-tells (ClockAnswer.Widened t a) (ClockAnswer.Widened u b) e =
+    let time = ap (λ (c : ClockReport). c .time) e in
+    let ms : t .0 ≡ u .0 = cc in
+    ap₂ ClockAnswer.Widened (λ i. record { 0 = ms i }) (ap (λ (c : ClockReport). c .step) e)
+
+-- What a report says of the refusal number, and so of what the call leaves.
+module _ {A : Type 0} where
+  pub accepted-none : (n : ℕ) (a b : A) → accepted a ≡ reported n b → n ≡ 0
+  accepted-none zero a b e = refl
+  accepted-none (suc n) a b e = cc
+
+  pub refused-leaves : {B : Type 0} (n m : ℕ) (a : A) (old new : B) → refused m ≡ reported n a → leaves n old new ≡ old
+  refused-leaves zero m a old new e = cc
+  refused-leaves (suc n) m a old new e = refl
