@@ -47,7 +47,7 @@ fn print_fields(frame: Frame) {
 
 fn write_again(frame: Frame, bytes: [u8; 28]) {
     let mut out = [0u8; 28];
-    match frame::write(frame, &mut out) {
+    match frame_writer::write(frame, &mut out) {
         WriteAnswer::Refused(_) => {
             io::write_all(STDOUT_FILENO, b" not written\n");
         }
@@ -62,7 +62,7 @@ fn write_again(frame: Frame, bytes: [u8; 28]) {
 }
 
 fn report(bytes: [u8; 28]) {
-    match frame::read(&bytes) {
+    match frame_reader::read(&bytes) {
         ReadAnswer::Refused(_) => {
             io::write_all(STDOUT_FILENO, b"refused\n");
         }

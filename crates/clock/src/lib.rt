@@ -3,7 +3,6 @@ use rules::ClockAnswer;
 use rules::Refusal;
 use rules::Time;
 ghost use mathlib.Core.Path.{_≡_};
-ghost use Prim.Native.Nat.{_<_, _^_};
 ghost use Rattle.rules.specs.Clock.{signed, clockOf, clockReport};
 
 // The largest time.
@@ -25,29 +24,30 @@ pub fn widen(latest: Time, reading: u32) -> ClockAnswer
     ensures { λ r. ⌜ clockReport r ≡ clockOf (latest .0) reading ⌝ }
 {
     if LAST < latest.0 {
-        return ClockAnswer::Refused {
+        ClockAnswer::Refused {
             refusal: Refusal::TimeAboveRange,
             step: 0,
-        };
-    }
-    let low = (latest.0 % 4294967296) as u32;
-    let difference = std::num::wrapping_sub_u32(reading, low);
-    let step = signed_step(difference);
-    if step < 0 {
-        return ClockAnswer::Refused {
-            refusal: Refusal::TimeBelowLatest,
-            step,
-        };
-    }
-    let time = latest.0 + difference as u64;
-    if LAST < time {
-        return ClockAnswer::Refused {
-            refusal: Refusal::TimeAboveRange,
-            step,
-        };
-    }
-    ClockAnswer::Widened {
-        time: Time(time),
-        step,
+        }
+    } else {
+        let low = (latest.0 % 4294967296) as u32;
+        let difference = std::num::wrapping_sub_u32(reading, low);
+        let step = signed_step(difference);
+        let time = latest.0 + difference as u64;
+        if step < 0 {
+            ClockAnswer::Refused {
+                refusal: Refusal::TimeBelowLatest,
+                step,
+            }
+        } else if LAST < time {
+            ClockAnswer::Refused {
+                refusal: Refusal::TimeAboveRange,
+                step,
+            }
+        } else {
+            ClockAnswer::Widened {
+                time: Time(time),
+                step,
+            }
+        }
     }
 }

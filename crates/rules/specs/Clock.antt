@@ -13,9 +13,13 @@ use Rattle.rules.specs.declared.ClockAnswer.the-variants.{Refused, Widen
 abbrev pub wrapped : ℕ → ℕ → ℕ
 wrapped latest reading = (reading + (2 ^ 32 - latest % 2 ^ 32)) % 2 ^ 32
 
--- "Read as a signed number from -2,147,483,648 to 2,147,483,647."
+-- "Read as a signed number from -2,147,483,648 to 2,147,483,647": from 2,147,483,648 on a difference stands for one that is
+-- 2^32 less.
+abbrev pub signTurn : ℕ
+signTurn = 2_147_483_648
+
 abbrev pub signed : ℕ → ℤ
-signed d = cond (ltb d (2 ^ 31)) (pos d) (pos d -ℤ pos (2 ^ 32))
+signed d = cond (ltb d signTurn) (pos d) (pos d -ℤ pos (2 ^ 32))
 
 abbrev pub isNegative : ℤ → Bool
 isNegative (pos n) = false

@@ -4,9 +4,6 @@ use Rattle.clock.proofs.Laws.{clock-above, clock-back, clock-far, clock
 use Rattle.clock.proofs.widen.Statement.{statement}
 use Rattle.clock.proofs.widen.Tie as tie
 
-returns : tie.Need-returns
-returns c = search clock-above
-
 cast-low : tie.Need-cast-low
 cast-low c = search needs
 
@@ -16,14 +13,17 @@ wrapping-sub-u32-requires c κs = search needs
 signed-step-requires : tie.Need-signed-step-requires
 signed-step-requires c κs = search needs
 
-returns-2 : tie.Need-returns-2
-returns-2 c = search clock-back
-
 cast-time : tie.Need-cast-time
 cast-time c = search needs
 
 add-time : tie.Need-add-time
 add-time c = search needs
+
+returns : tie.Need-returns
+returns c = search clock-above
+
+returns-2 : tie.Need-returns-2
+returns-2 c = search clock-back
 
 returns-3 : tie.Need-returns-3
 returns-3 c = search clock-far
@@ -35,12 +35,12 @@ pub widen-spec : {M : Type 1} → statement M
 widen-spec =
     tie.close
     (tie.spec
-    returns
     cast-low
     wrapping-sub-u32-requires
     signed-step-requires
-    returns-2
     cast-time
     add-time
+    returns
+    returns-2
     returns-3
     returns-4)

@@ -1,0 +1,67 @@
+-- How what the inner functions promise makes up the definitions of the crate rules: a law for each way that a function ends.
+use Prim.Native.Nat.{ℕ, _+_, _≤_, _<_}
+use mathlib.Core.Path.{_≡_, refl, sym, ap, _∙_}
+use mathlib.Core.List.{List}
+use mathlib.Core.Bool.{Bool, true, false, _&&_, true≢false}
+use native.Mathlib.Omega.{arith}
+use lib.ListN.{length, take}
+use lib.Seq.{length-take-le}
+use borrow.Author.Tests.{lt-ltb, le-ltb}
+use Rattle.rules.specs.Answers.{refused, accepted}
+use Rattle.rules.specs.Bytes.{numberOf, numberAt, sameBytes}
+use Rattle.rules.specs.Frame.{requestHeader, knownOperation, frameOf, isArp, readRefusal, readOf}
+use Rattle.rules.specs.declared.Frame.{Frame}
+use Rattle.rules.proofs.BytesLaws.{elements, part-elements, same-equal}
+use Rattle.frame_reader.specs.Parts.{FieldsOf}
+
+pub fields-frame : (bytes : List ℕ) (f : Frame) → 28 ≤ length bytes → FieldsOf bytes f → f ≡ frameOf bytes
+unfolding frameOf
+fields-frame bytes f h p =
+    λ i. record {
+      operation = (p .operation ∙ part 6 2 (omega arith)) i;
+      sender = record {
+        hardware = record { 0 = (p .sender-hardware ∙ part 8 6 (omega arith)) i };
+        ip = record { 0 = (p .sender-ip ∙ part 14 4 (omega arith)) i };
+      };
+      target = record {
+        hardware = record { 0 = (p .target-hardware ∙ part 18 6 (omega arith)) i };
+        ip = record { 0 = (p .target-ip ∙ part 24 4 (omega arith)) i };
+      };
+    }
+  where
+    part : (at n : ℕ) → at + n ≤ length bytes → numberOf (elements n at bytes) ≡ numberAt at n bytes
+    part at n k = ap numberOf (sym (part-elements n at bytes k))
+
+pub prefix-length : (n : ℕ) (bytes : List ℕ) → n ≤ 28 → 28 ≤ length bytes → n ≡ length (take n bytes)
+prefix-length n bytes h k = sym (length-take-le n bytes (omega arith))
+
+module _ (bytes : List ℕ) where
+  -- `same` is what comparing the first six bytes answered.
+  module _ (same : Bool) (told : (same ≡ true → take 6 bytes ≡ take 6 requestHeader) × (take 6 bytes ≡ take 6 requestHeader → same ≡ true)) where
+    pub header-same : same ≡ true → 28 ≤ length bytes → (operation : ℕ) → operation ≡ numberOf (elements 2 6 bytes) →
+        (known : Bool) → known ≡ knownOperation operation → known ≡ isArp bytes
+    unfolding isArp
+    header-same h long operation o known k = rw (told .0 h, part-elements 2 6 bytes (omega arith), ← o) k
+
+    pub header-differs : same ≡ false → false ≡ isArp bytes
+    unfolding isArp
+    header-differs h = go (sameBytes (take 6 bytes) (take 6 requestHeader)) refl
+      where
+        go : (b : Bool) → sameBytes (take 6 bytes) (take 6 requestHeader) ≡ b →
+            false ≡ (sameBytes (take 6 bytes) (take 6 requestHeader) && knownOperation (numberAt 6 2 bytes))
+        go true e = absurd (true≢false (sym (told .1 (same-equal (take 6 bytes) (take 6 requestHeader) e)) ∙ h))
+        go false e = rw e
+
+  pub read-short : length bytes < 28 → refused 6 ≡ readOf bytes
+  unfolding readOf readRefusal
+  read-short h = rw (lt-ltb (length bytes) 28 h)
+
+  -- `arp` is what the test of the header answered.
+  module _ (long : 28 ≤ length bytes) (arp : Bool) (told : arp ≡ isArp bytes) where
+    pub read-foreign : arp ≡ false → refused 7 ≡ readOf bytes
+    unfolding readOf readRefusal
+    read-foreign a = rw (le-ltb (length bytes) 28 long, ← told, a)
+
+    pub read-whole : arp ≡ true → (f : Frame) → FieldsOf bytes f → accepted f ≡ readOf bytes
+    unfolding readOf readRefusal
+    read-whole a f p = rw (le-ltb (length bytes) 28 long, ← told, a) (ap accepted (fields-frame bytes f long p))
