@@ -1,19 +1,19 @@
 -- How the machine's steps make up the definitions of the crate rules: a law for each way that a function ends.
 use Prim.Native.Nat.{ℕ, zero, suc, _+_, _-_, _%_, _^_, _≤_, _<_, zero-le}
 use mathlib.Core.Path.{_≡_, refl, sym, ap, _∙_}
-use mathlib.Core.Bool.{Bool, true, false, cond, true≢false}
+use mathlib.Core.Bool.{Bool, true, false, true≢false}
 use native.Mathlib.Nat.{zero-add}
 use native.Mathlib.Omega.{arith}
 use lib.IntN.{ℤ, pos, negsuc, _-ℤ_}
 use lib.Signed.{mag, ltZ}
-use lib.Dec.{ltb, leb}
+use lib.Dec.{ltb}
 use mir.Syntax.{w32}
 use mir.Val.{SFits, ofZ, toZ}
 use mir.Facts.{toZ-pos, toZ-ofZ}
 use borrow.Author.Tests.{lt-ltb, le-ltb, le-leb, lt-leb, ltb-true, ltb-false}
 use Rattle.rules.specs.Times.{lastTime}
-use Rattle.rules.specs.Answers.{Report, refused, accepted, reported}
-use Rattle.rules.specs.Clock.{wrapped, signed, isNegative, plus, clockStep, clockRefusal, ClockReport, clockOf}
+use Rattle.rules.specs.Answers.{refused, accepted}
+use Rattle.rules.specs.Clock.{wrapped, signed, isNegative, clockStep, clockRefusal, clockOf}
 
 -- A difference below 2^31 is itself, any other is less than none.
 pub signed-forward : (d : ℕ) → d < 2 ^ 31 → signed d ≡ pos d

@@ -1,6 +1,6 @@
 -- How what the inner functions promise makes up the definitions of the crate rules: a law for each way that a function ends.
 use Prim.Native.Nat.{ℕ, _≤_, _<_, _/_, _%_, _^_}
-use mathlib.Core.Path.{_≡_, refl, sym, _∙_}
+use mathlib.Core.Path.{_≡_, sym, _∙_}
 use mathlib.Core.List.{List, _++_}
 use mathlib.Core.Bool.{Bool, true, false}
 use native.Mathlib.Nat.{le-refl}

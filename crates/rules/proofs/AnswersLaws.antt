@@ -2,12 +2,22 @@
 use Prim.Native.Nat.{ℕ, zero, suc, _-_}
 use mathlib.Core.Path.{_≡_, refl, sym, ap, ap₂, _∙_}
 use mathlib.Core.List.{List, [], _∷_}
+use mathlib.Core.Bool.{cond}
 use lib.ListN.{getD}
-use Rattle.rules.specs.Answers.{refusalNumber, Report, refused, accepted, reported, leaves}
+use Rattle.rules.specs.Bytes.{sameBytes}
+use Rattle.rules.specs.Answers.{kindWord, slotNumber, momentTime, Accepted, answerReport, refusalNumber, refused, accepted, reported, leaves}
 use Rattle.rules.specs.Frame.{readReport, writeReport}
 use Rattle.rules.specs.Clock.{ClockReport, clockReport}
 use Rattle.rules.specs.declared.Refusal.{Refusal}
 use Rattle.rules.specs.declared.Refusal.the-variants.{StateNotSound, HardwareNotAllowed, TimeAboveRange, TimeBelowLatest, BufferTooShort, PacketTooShort, NotArp, AddressNotAllowed, PolicyUnknown, AddressHeld, NoSlotFree, TooManyRequests, SlotNotHeld, LineMalformed}
+use Rattle.rules.specs.declared.Kind.{Kind}
+use Rattle.rules.specs.declared.Kind.the-variants.{Fresh, Taken, Nothing, Probe, Announce, Defend, Lost, Kept, Dropped}
+use Rattle.rules.specs.declared.Slot.{Slot}
+use Rattle.rules.specs.declared.Slot.the-variants.{Absent, Number}
+use Rattle.rules.specs.declared.Moment.{Moment}
+use Rattle.rules.specs.declared.Moment.the-variants.{Never, At}
+use Rattle.rules.specs.declared.Answer.{Answer}
+use Rattle.rules.specs.declared.Answer.the-variants as Answer
 use Rattle.rules.specs.declared.ReadAnswer.{ReadAnswer}
 use Rattle.rules.specs.declared.ReadAnswer.the-variants as ReadAnswer
 use Rattle.rules.specs.declared.WriteAnswer.{WriteAnswer}
@@ -66,6 +76,53 @@ clock-tells (ClockAnswer.Widened t a) (ClockAnswer.Widened u b) e =
     let time = ap (λ (c : ClockReport). c .time) e in
     let ms : t .0 ≡ u .0 = cc in
     ap₂ ClockAnswer.Widened (λ i. record { 0 = ms i }) (ap (λ (c : ClockReport). c .step) e)
+
+-- The kind with a word.
+kinds : List Kind
+kinds = Fresh ∷ Taken ∷ Nothing ∷ Probe ∷ Announce ∷ Defend ∷ Lost ∷ Kept ∷ Dropped ∷ []
+
+worded : List Kind → List ℕ → Kind
+worded [] word = Fresh
+worded (kind ∷ rest) word = cond (sameBytes word (kindWord kind)) kind (worded rest word)
+
+worded-word : (k : Kind) → worded kinds (kindWord k) ≡ k
+unfolding kinds worded kindWord
+worded-word Fresh = refl
+worded-word Taken = refl
+worded-word Nothing = refl
+worded-word Probe = refl
+worded-word Announce = refl
+worded-word Defend = refl
+worded-word Lost = refl
+worded-word Kept = refl
+worded-word Dropped = refl
+
+pub word-tells : (j k : Kind) → kindWord j ≡ kindWord k → j ≡ k
+word-tells j k e = sym (worded-word j) ∙ ap (worded kinds) e ∙ worded-word k
+
+slot-tells : (s t : Slot) → slotNumber s ≡ slotNumber t → s ≡ t
+slot-tells Absent Absent e = refl
+slot-tells Absent (Number n) e = cc
+slot-tells (Number m) Absent e = cc
+slot-tells (Number m) (Number n) e = cc
+
+moment-tells : (s t : Moment) → momentTime s ≡ momentTime t → s ≡ t
+moment-tells Never Never e = refl
+moment-tells Never (At t) e = cc
+moment-tells (At s) Never e = cc
+moment-tells (At s) (At t) e = let ms : s .0 ≡ t .0 = cc in ap At (λ i. record { 0 = ms i })
+
+pub answer-tells : (r s : Answer) → answerReport r ≡ answerReport s → r ≡ s
+unfolding answerReport
+answer-tells (Answer.Refused r) (Answer.Refused s) e = ap Answer.Refused (number-tells r s (cc))
+answer-tells (Answer.Refused r) (Answer.Accepted k s n) e = cc
+answer-tells (Answer.Accepted k s n) (Answer.Refused r) e = cc
+answer-tells (Answer.Accepted j s m) (Answer.Accepted k t n) e =
+    let said : _≡_ {A = Accepted} (record { kind = kindWord j; slot = slotNumber s; next = momentTime m }) (record { kind = kindWord k; slot = slotNumber t; next = momentTime n }) = cc in
+    λ i. Answer.Accepted
+    (word-tells j k (ap (λ (a : Accepted). a .kind) said) i)
+    (slot-tells s t (ap (λ (a : Accepted). a .slot) said) i)
+    (moment-tells m n (ap (λ (a : Accepted). a .next) said) i)
 
 -- What a report says of the refusal number, and so of what the call leaves.
 module _ {A : Type 0} where

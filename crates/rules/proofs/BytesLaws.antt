@@ -1,16 +1,16 @@
 -- Numbers as bytes: each way undoes the other, at every width.
-use Prim.Native.Nat.{ℕ, zero, suc, _+_, _*_, _/_, _%_, _^_, _≤_, _<_, zero-le}
-use mathlib.Core.Path.{_≡_, refl, sym, ap, ap₂, _∙_, subst}
+use Prim.Native.Nat.{ℕ, zero, suc, _+_, _*_, _/_, _%_, _^_, _≤_, _<_}
+use mathlib.Core.Path.{_≡_, refl, sym, ap, ap₂, _∙_}
 use mathlib.Core.List.{List, [], _∷_}
 use mathlib.Core.Bool.{Bool, true, false, _&&_}
-use native.Mathlib.Nat.{pow-zero, pow-suc, pow-succ', one-le-pow, mul-assoc, add-assoc, mod-one, div-one, mul-add-div-right, mul-add-mod-self-right, mod-eq-of-lt, add-zero}
+use native.Mathlib.Nat.{pow-succ', one-le-pow, mul-assoc, mod-one, div-one, mul-add-div-right, mul-add-mod-self-right, mod-eq-of-lt}
 use native.Mathlib.Omega.{arith}
 use lib.ListN.{length, take, drop, getD, length-drop}
 use lib.Seq.{drop-cons, length-take-le}
 use lib.Arith.{digits-div, digits-lt, mod-mul}
 use lib.Pow.{areBytes}
 use lib.Dec.{ltb, eqb}
-use borrow.Author.Tests.{ltb-true, eqb-true, eq-eqb}
+use borrow.Author.Tests.{ltb-true, eqb-true}
 use Rattle.rules.specs.Bytes.{byteOf, bytesOf, numberOf, numberAt, sameBytes}
 
 -- Both parts of a test that holds.
@@ -63,10 +63,6 @@ bytes-number (b ∷ bs) h =
     (above (length bs) b (numberOf bs) ∙ bytes-number bs (and-both (ltb b 256) (areBytes bs) h .1))
 
 -- Equal lists, by the test.
-pub same-refl : (xs : List ℕ) → sameBytes xs xs ≡ true
-same-refl [] = refl
-same-refl (x ∷ xs) = rw (eq-eqb x x refl) (same-refl xs)
-
 pub same-equal : (xs ys : List ℕ) → sameBytes xs ys ≡ true → xs ≡ ys
 same-equal [] [] h = refl
 same-equal [] (y ∷ ys) h = cc

@@ -1,16 +1,16 @@
 -- The clock tells the true time.
 use Prim.Native.Nat.{ℕ, _+_, _-_, _%_, _^_, _≤_, _<_}
-use mathlib.Core.Path.{_≡_, refl, sym, ap, ap₂, _∙_}
+use mathlib.Core.Path.{_≡_, refl, ap}
 use mathlib.Core.List.{List, [], _∷_, map}
-use mathlib.Core.Bool.{Bool, true, false, cond}
+use mathlib.Core.Bool.{Bool, true, false}
 use native.Mathlib.Omega.{arith}
-use lib.IntN.{ℤ, pos, negsuc}
+use lib.IntN.{pos}
 use lib.Signed.{mag}
-use lib.Dec.{leb, ltb}
+use lib.Dec.{ltb}
 use borrow.Author.Tests.{lt-ltb, le-ltb, le-leb, ltb-true, ltb-false}
 use Rattle.rules.specs.Times.{lastTime}
-use Rattle.rules.specs.Answers.{Report, refused, accepted, reported, _if_else_}
-use Rattle.rules.specs.Clock.{wrapped, signTurn, signed, isNegative, plus, clockStep, clockRefusal, ClockReport, clockOf, latestAfter, widenedTimes, TrueTimes, readingAt}
+use Rattle.rules.specs.Answers.{Report, accepted}
+use Rattle.rules.specs.Clock.{wrapped, signTurn, signed, plus, clockStep, clockRefusal, clockOf, widenedTimes, TrueTimes, readingAt}
 
 -- The wrapped difference of two true times not too far apart is their difference.
 wrapped-true : (before now : ℕ) → before ≤ now → now ≤ before + 2_147_483_647 → wrapped before (readingAt now) ≡ now - before

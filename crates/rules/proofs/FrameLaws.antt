@@ -1,6 +1,6 @@
 -- The laws of the frame, each over every frame.
-use Prim.Native.Nat.{ℕ, zero, suc, _+_, _≤_, _<_, _^_}
-use mathlib.Core.Path.{_≡_, refl, sym, ap, ap₂, _∙_}
+use Prim.Native.Nat.{ℕ, _≤_, _<_, _^_}
+use mathlib.Core.Path.{_≡_, refl, sym, ap, _∙_}
 use mathlib.Core.List.{List, [], _∷_, _++_}
 use mathlib.Core.Bool.{Bool, true, false, not, _&&_}
 use native.Mathlib.Omega.{arith}
@@ -9,8 +9,8 @@ use lib.Seq.{take-add}
 use lib.Pow.{areBytes}
 use lib.Dec.{ltb, eqb}
 use borrow.Author.Tests.{lt-ltb, ltb-true, ltb-false, le-ltb, eqb-true}
-use Rattle.rules.specs.Bytes.{bytesOf, numberOf, numberAt, sameBytes}
-use Rattle.rules.specs.Answers.{Report, refused, accepted, reported, leaves, _if_else_}
+use Rattle.rules.specs.Bytes.{bytesOf, numberAt, sameBytes}
+use Rattle.rules.specs.Answers.{accepted, _if_else_}
 use Rattle.rules.specs.Frame.{frameBytes, requestHeader, probe, announcement, knownOperation, frameOf, isArp, readRefusal, readOf, isHardware, isWritable, writeRefusal, framePut, writeOf, writeOut}
 use Rattle.rules.proofs.BytesLaws.{and-both, number-bytes-fits, numberAt-lt, numberAt-bytes, same-equal}
 use Rattle.rules.specs.declared.Ipv4Address.{Ipv4Address}
@@ -23,8 +23,13 @@ pub frame-length : (f : Frame) → length (frameBytes f) ≡ 28
 unfolding frameBytes
 frame-length f = refl
 
--- A request begins with the eight bytes, and every frame with the first six of them.
-pub request-header : (sender target : Host) → take 8 (frameBytes (record { operation = 1; sender = sender; target = target })) ≡ requestHeader
+-- Every frame begins with our six bytes, and a request with the eight.
+pub frame-header : (f : Frame) → take 6 (frameBytes f) ≡ take 6 requestHeader
+unfolding frameBytes
+frame-header f = refl
+
+pub request-header : (sender target : Host) →
+    take 8 (frameBytes (record { operation = 1; sender = sender; target = target })) ≡ requestHeader
 unfolding frameBytes
 request-header sender target = refl
 
@@ -38,6 +43,23 @@ pub announcement-bytes : (ours : HardwareAddress) (address : Ipv4Address) →
     frameBytes (announcement ours address) ≡ requestHeader ++ bytesOf 6 (ours .0) ++ bytesOf 4 (address .0) ++ (0 ∷ 0 ∷ 0 ∷ 0 ∷ 0 ∷ 0 ∷ []) ++ bytesOf 4 (address .0)
 unfolding frameBytes announcement
 announcement-bytes ours address = refl
+
+-- The probe and the announcement of document 01's whole case: 192.0.2.7, asked for by 02 00 00 00 00 0a.
+whole-case-probe :
+    frameBytes (probe (record { 0 = 0x02000000000a }) (record { 0 = 0xc0000207 }))
+    ≡ 0x00 ∷ 0x01 ∷ 0x08 ∷ 0x00 ∷ 0x06 ∷ 0x04 ∷ 0x00 ∷ 0x01
+    ∷ 0x02 ∷ 0x00 ∷ 0x00 ∷ 0x00 ∷ 0x00 ∷ 0x0a ∷ 0x00 ∷ 0x00 ∷ 0x00 ∷ 0x00
+    ∷ 0x00 ∷ 0x00 ∷ 0x00 ∷ 0x00 ∷ 0x00 ∷ 0x00 ∷ 0xc0 ∷ 0x00 ∷ 0x02 ∷ 0x07 ∷ []
+unfolding frameBytes probe
+whole-case-probe = refl
+
+whole-case-announcement :
+    frameBytes (announcement (record { 0 = 0x02000000000a }) (record { 0 = 0xc0000207 }))
+    ≡ 0x00 ∷ 0x01 ∷ 0x08 ∷ 0x00 ∷ 0x06 ∷ 0x04 ∷ 0x00 ∷ 0x01
+    ∷ 0x02 ∷ 0x00 ∷ 0x00 ∷ 0x00 ∷ 0x00 ∷ 0x0a ∷ 0xc0 ∷ 0x00 ∷ 0x02 ∷ 0x07
+    ∷ 0x00 ∷ 0x00 ∷ 0x00 ∷ 0x00 ∷ 0x00 ∷ 0x00 ∷ 0xc0 ∷ 0x00 ∷ 0x02 ∷ 0x07 ∷ []
+unfolding frameBytes announcement
+whole-case-announcement = refl
 
 -- Where no refusal is given, neither row of the two applies.
 neither : (n m : ℕ) (a b : Bool) → 0 < n → 0 < m → n if a else m if not b else 0 ≡ 0 → (a ≡ false) × (b ≡ true)

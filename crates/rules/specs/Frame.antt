@@ -8,7 +8,6 @@ use Rattle.rules.specs.Bytes.{bytesOf, numberAt, sameBytes}
 use Rattle.rules.specs.Answers.{refusalNumber, _if_else_, Report, refused, accepted, reported, leaves}
 use Rattle.rules.specs.declared.Ipv4Address.{Ipv4Address}
 use Rattle.rules.specs.declared.HardwareAddress.{HardwareAddress}
-use Rattle.rules.specs.declared.Host.{Host}
 use Rattle.rules.specs.declared.Frame.{Frame}
 use Rattle.rules.specs.declared.ReadAnswer.{ReadAnswer}
 use Rattle.rules.specs.declared.ReadAnswer.the-variants as ReadAnswer
