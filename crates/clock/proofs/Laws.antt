@@ -16,10 +16,10 @@ use Rattle.rules.specs.Answers.{refused, accepted}
 use Rattle.rules.specs.Clock.{wrapped, signed, isNegative, clockStep, clockRefusal, clockOf}
 
 -- A difference below 2^31 is itself, any other is less than none.
-pub signed-forward : (d : ℕ) → d < 2 ^ 31 → signed d ≡ pos d
+signed-forward : (d : ℕ) → d < 2 ^ 31 → signed d ≡ pos d
 signed-forward d h = rw (lt-ltb d (2 ^ 31) h)
 
-pub signed-backward : (d : ℕ) → 2 ^ 31 ≤ d → d < 2 ^ 32 → signed d ≡ negsuc (4294967295 - d)
+signed-backward : (d : ℕ) → 2 ^ 31 ≤ d → d < 2 ^ 32 → signed d ≡ negsuc (4294967295 - d)
 signed-backward d h k =
     rw (le-ltb d (2 ^ 31) h, lt-ltb d (2 ^ 32) k) (ap negsuc (omega arith))
 

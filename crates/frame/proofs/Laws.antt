@@ -4,9 +4,9 @@ use mathlib.Core.Path.{_≡_, refl}
 use native.Mathlib.Omega.{arith}
 use lib.Dec.{leb}
 use borrow.Author.Tests.{lt-leb, ne-eqb}
-use Rattle.rules.specs.Frame.{knownOperation}
+use Rattle.rules.specs.Frame.{isKnownOperation}
 
-pub known-from : (operation : ℕ) → 1 ≤ operation → leb operation 2 ≡ knownOperation operation
+pub known-from : (operation : ℕ) → 1 ≤ operation → leb operation 2 ≡ isKnownOperation operation
 known-from zero h = absurd (omega arith)
 known-from (suc zero) h = refl
 known-from (suc (suc zero)) h = refl
@@ -17,6 +17,6 @@ known-from (suc (suc (suc n))) h =
       ne-eqb (suc (suc (suc n))) 2 (λ e. omega arith),
     )
 
-pub known-below : (operation : ℕ) → operation < 1 → leb 1 operation ≡ knownOperation operation
+pub known-below : (operation : ℕ) → operation < 1 → leb 1 operation ≡ isKnownOperation operation
 known-below zero h = refl
 known-below (suc n) h = absurd (omega arith)

@@ -9,7 +9,7 @@ use lib.Seq.{length-take-le}
 use borrow.Author.Tests.{lt-ltb, le-ltb}
 use Rattle.rules.specs.Answers.{refused, accepted}
 use Rattle.rules.specs.Bytes.{numberOf, numberAt, sameBytes}
-use Rattle.rules.specs.Frame.{requestHeader, knownOperation, frameOf, isArp, readRefusal, readOf}
+use Rattle.rules.specs.Frame.{requestHeader, isKnownOperation, frameOf, isKnownFrame, readRefusal, readOf}
 use Rattle.rules.specs.declared.Frame.{Frame}
 use Rattle.rules.proofs.BytesLaws.{elements, part-elements, same-equal}
 use Rattle.frame_reader.specs.Parts.{FieldsOf}
@@ -39,16 +39,16 @@ module _ (bytes : List ℕ) where
   -- `same` is what comparing the first six bytes answered.
   module _ (same : Bool) (told : (same ≡ true → take 6 bytes ≡ take 6 requestHeader) × (take 6 bytes ≡ take 6 requestHeader → same ≡ true)) where
     pub header-same : same ≡ true → 28 ≤ length bytes → (operation : ℕ) → operation ≡ numberOf (elements 2 6 bytes) →
-        (known : Bool) → known ≡ knownOperation operation → known ≡ isArp bytes
-    unfolding isArp
+        (known : Bool) → known ≡ isKnownOperation operation → known ≡ isKnownFrame bytes
+    unfolding isKnownFrame
     header-same h long operation o known k = rw (told .0 h, part-elements 2 6 bytes (omega arith), ← o) k
 
-    pub header-differs : same ≡ false → false ≡ isArp bytes
-    unfolding isArp
+    pub header-differs : same ≡ false → false ≡ isKnownFrame bytes
+    unfolding isKnownFrame
     header-differs h = go (sameBytes (take 6 bytes) (take 6 requestHeader)) refl
       where
         go : (b : Bool) → sameBytes (take 6 bytes) (take 6 requestHeader) ≡ b →
-            false ≡ (sameBytes (take 6 bytes) (take 6 requestHeader) && knownOperation (numberAt 6 2 bytes))
+            false ≡ (sameBytes (take 6 bytes) (take 6 requestHeader) && isKnownOperation (numberAt 6 2 bytes))
         go true e = absurd (true≢false (sym (told .1 (same-equal (take 6 bytes) (take 6 requestHeader) e)) ∙ h))
         go false e = rw e
 
@@ -56,12 +56,12 @@ module _ (bytes : List ℕ) where
   unfolding readOf readRefusal
   read-short h = rw (lt-ltb (length bytes) 28 h)
 
-  -- `arp` is what the test of the header answered.
-  module _ (long : 28 ≤ length bytes) (arp : Bool) (told : arp ≡ isArp bytes) where
-    pub read-foreign : arp ≡ false → refused 7 ≡ readOf bytes
+  -- `known` is what the test of the header answered.
+  module _ (long : 28 ≤ length bytes) (known : Bool) (told : known ≡ isKnownFrame bytes) where
+    pub read-foreign : known ≡ false → refused 7 ≡ readOf bytes
     unfolding readOf readRefusal
-    read-foreign a = rw (le-ltb (length bytes) 28 long, ← told, a)
+    read-foreign k = rw (le-ltb (length bytes) 28 long, ← told, k)
 
-    pub read-whole : arp ≡ true → (f : Frame) → FieldsOf bytes f → accepted f ≡ readOf bytes
+    pub read-whole : known ≡ true → (f : Frame) → FieldsOf bytes f → accepted f ≡ readOf bytes
     unfolding readOf readRefusal
-    read-whole a f p = rw (le-ltb (length bytes) 28 long, ← told, a) (ap accepted (fields-frame bytes f long p))
+    read-whole k f p = rw (le-ltb (length bytes) 28 long, ← told, k) (ap accepted (fields-frame bytes f long p))

@@ -11,7 +11,7 @@ ghost use mathlib.Core.List.{_∷_, []};
 ghost use Prim.Native.Nat.{_≤_};
 ghost use lib.ListN.{length};
 ghost use Rattle.rules.specs.Bytes.{numberOf};
-ghost use Rattle.rules.specs.Frame.{isArp, readOf, readReport};
+ghost use Rattle.rules.specs.Frame.{isKnownFrame, readOf, readReport};
 ghost use Rattle.frame_reader.specs.Parts.{FieldsOf};
 
 fn number2(a: u8, b: u8) -> u16
@@ -33,13 +33,13 @@ fn number6(a: u8, b: u8, c: u8, d: u8, e: u8, f: u8) -> u64
 }
 
 // Whether 28 or more bytes begin as ours do, with operation 1 or 2.
-fn is_arp(bytes: &[u8]) -> bool
+fn is_known_frame(bytes: &[u8]) -> bool
     requires { ⌜ 28 ≤ length (now bytes) ⌝ }
-    ensures { λ r. ⌜ r ≡ isArp (now (bytes .entry)) ⌝ }
+    ensures { λ r. ⌜ r ≡ isKnownFrame (now (bytes .entry)) ⌝ }
 {
     let ours = REQUEST;
     if check::same(&bytes[..6], &ours[..6]) {
-        frame::is_known(number2(bytes[6], bytes[7]))
+        frame::is_known_operation(number2(bytes[6], bytes[7]))
     } else {
         false
     }
@@ -86,9 +86,9 @@ pub fn read(bytes: &[u8]) -> ReadAnswer
 {
     if bytes.len() < 28 {
         ReadAnswer::Refused(Refusal::PacketTooShort)
-    } else if is_arp(bytes) {
+    } else if is_known_frame(bytes) {
         ReadAnswer::Read(fields(bytes))
     } else {
-        ReadAnswer::Refused(Refusal::NotArp)
+        ReadAnswer::Refused(Refusal::FrameUnknown)
     }
 }

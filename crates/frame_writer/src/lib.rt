@@ -14,7 +14,7 @@ fn is_writable(frame: Frame) -> bool
 {
     let sender = frame.sender.hardware.0;
     let target = frame.target.hardware.0;
-    if frame::is_known(frame.operation) {
+    if frame::is_known_operation(frame.operation) {
         sender < 281474976710656 && target < 281474976710656
     } else {
         false
@@ -85,7 +85,7 @@ fn write_answer(frame: Frame, room: usize) -> WriteAnswer
     } else if writable {
         WriteAnswer::Written
     } else {
-        WriteAnswer::Refused(Refusal::NotArp)
+        WriteAnswer::Refused(Refusal::FrameUnknown)
     }
 }
 

@@ -1,19 +1,20 @@
 -- A report says which answer was given: no two answers have the same numbers and values.
-use Prim.Native.Nat.{ℕ, zero, suc, _-_}
+use Prim.Native.Nat.{ℕ, _-_}
 use mathlib.Core.Path.{_≡_, refl, sym, ap, ap₂, _∙_}
 use mathlib.Core.List.{List, [], _∷_}
 use mathlib.Core.Bool.{cond}
+use mathlib.Core.Option.{Option, none, some}
 use lib.ListN.{getD}
 use Rattle.rules.specs.Bytes.{sameBytes}
-use Rattle.rules.specs.Answers.{kindWord, slotNumber, momentTime, Accepted, answerReport, refusalNumber, refused, accepted, reported, leaves}
+use Rattle.rules.specs.Answers.{kindWord, slotOf, timeOf, Accepted, answerReport, refusalNumber, refused, accepted, reported, leaves}
 use Rattle.rules.specs.Frame.{readReport, writeReport}
 use Rattle.rules.specs.Clock.{ClockReport, clockReport}
 use Rattle.rules.specs.declared.Refusal.{Refusal}
-use Rattle.rules.specs.declared.Refusal.the-variants.{StateNotSound, HardwareNotAllowed, TimeAboveRange, TimeBelowLatest, BufferTooShort, PacketTooShort, NotArp, AddressNotAllowed, PolicyUnknown, AddressHeld, NoSlotFree, TooManyRequests, SlotNotHeld, LineMalformed}
+use Rattle.rules.specs.declared.Refusal.the-variants.{StateNotSound, HardwareNotAllowed, TimeAboveRange, TimeBelowLatest, BufferTooShort, PacketTooShort, FrameUnknown, AddressNotAllowed, PolicyUnknown, AddressHeld, NoSlotFree, TooManyRequests, SlotNotHeld, LineMalformed}
 use Rattle.rules.specs.declared.Kind.{Kind}
 use Rattle.rules.specs.declared.Kind.the-variants.{Fresh, Taken, Nothing, Probe, Announce, Defend, Lost, Kept, Dropped}
-use Rattle.rules.specs.declared.Slot.{Slot}
-use Rattle.rules.specs.declared.Slot.the-variants.{Absent, Number}
+use Rattle.rules.specs.declared.SlotNumber.{SlotNumber}
+use Rattle.rules.specs.declared.SlotNumber.the-variants.{Absent, Slot}
 use Rattle.rules.specs.declared.Moment.{Moment}
 use Rattle.rules.specs.declared.Moment.the-variants.{Never, At}
 use Rattle.rules.specs.declared.Answer.{Answer}
@@ -28,7 +29,7 @@ use Rattle.rules.specs.declared.ClockAnswer.the-variants as ClockAnswer
 -- The refusals in the order of their numbers, and the one with a number.
 refusals : List Refusal
 refusals =
-    StateNotSound ∷ HardwareNotAllowed ∷ TimeAboveRange ∷ TimeBelowLatest ∷ BufferTooShort ∷ PacketTooShort ∷ NotArp
+    StateNotSound ∷ HardwareNotAllowed ∷ TimeAboveRange ∷ TimeBelowLatest ∷ BufferTooShort ∷ PacketTooShort ∷ FrameUnknown
     ∷ AddressNotAllowed ∷ PolicyUnknown ∷ AddressHeld ∷ NoSlotFree ∷ TooManyRequests ∷ SlotNotHeld ∷ LineMalformed ∷ []
 
 numbered : ℕ → Refusal
@@ -42,7 +43,7 @@ numbered-number TimeAboveRange = refl
 numbered-number TimeBelowLatest = refl
 numbered-number BufferTooShort = refl
 numbered-number PacketTooShort = refl
-numbered-number NotArp = refl
+numbered-number FrameUnknown = refl
 numbered-number AddressNotAllowed = refl
 numbered-number PolicyUnknown = refl
 numbered-number AddressHeld = refl
@@ -100,13 +101,13 @@ worded-word Dropped = refl
 pub word-tells : (j k : Kind) → kindWord j ≡ kindWord k → j ≡ k
 word-tells j k e = sym (worded-word j) ∙ ap (worded kinds) e ∙ worded-word k
 
-slot-tells : (s t : Slot) → slotNumber s ≡ slotNumber t → s ≡ t
+slot-tells : (s t : SlotNumber) → slotOf s ≡ slotOf t → s ≡ t
 slot-tells Absent Absent e = refl
-slot-tells Absent (Number n) e = cc
-slot-tells (Number m) Absent e = cc
-slot-tells (Number m) (Number n) e = cc
+slot-tells Absent (Slot n) e = cc
+slot-tells (Slot m) Absent e = cc
+slot-tells (Slot m) (Slot n) e = cc
 
-moment-tells : (s t : Moment) → momentTime s ≡ momentTime t → s ≡ t
+moment-tells : (s t : Moment) → timeOf s ≡ timeOf t → s ≡ t
 moment-tells Never Never e = refl
 moment-tells Never (At t) e = cc
 moment-tells (At s) Never e = cc
@@ -118,18 +119,19 @@ answer-tells (Answer.Refused r) (Answer.Refused s) e = ap Answer.Refused (number
 answer-tells (Answer.Refused r) (Answer.Accepted k s n) e = cc
 answer-tells (Answer.Accepted k s n) (Answer.Refused r) e = cc
 answer-tells (Answer.Accepted j s m) (Answer.Accepted k t n) e =
-    let said : _≡_ {A = Accepted} (record { kind = kindWord j; slot = slotNumber s; next = momentTime m }) (record { kind = kindWord k; slot = slotNumber t; next = momentTime n }) = cc in
+    let said : _≡_ {A = Accepted} (record { kind = kindWord j; slot = slotOf s; next = timeOf m }) (record { kind = kindWord k; slot = slotOf t; next = timeOf n }) = cc in
     λ i. Answer.Accepted
     (word-tells j k (ap (λ (a : Accepted). a .kind) said) i)
     (slot-tells s t (ap (λ (a : Accepted). a .slot) said) i)
     (moment-tells m n (ap (λ (a : Accepted). a .next) said) i)
 
--- What a report says of the refusal number, and so of what the call leaves.
+-- What a report says of the refusal, and so of what the call leaves.
 module _ {A : Type 0} where
-  pub accepted-none : (n : ℕ) (a b : A) → accepted a ≡ reported n b → n ≡ 0
-  accepted-none zero a b e = refl
-  accepted-none (suc n) a b e = cc
+  pub accepted-none : (refusal : Option ℕ) (a b : A) → accepted a ≡ reported refusal b → refusal ≡ none
+  accepted-none none a b e = refl
+  accepted-none (some n) a b e = cc
 
-  pub refused-leaves : {B : Type 0} (n m : ℕ) (a : A) (old new : B) → refused m ≡ reported n a → leaves n old new ≡ old
-  refused-leaves zero m a old new e = cc
-  refused-leaves (suc n) m a old new e = refl
+  pub refused-leaves : {B : Type 0} (refusal : Option ℕ) (n : ℕ) (a : A) (old new : B) → refused n ≡ reported refusal a →
+      leaves refusal old new ≡ old
+  refused-leaves none n a old new e = cc
+  refused-leaves (some m) n a old new e = refl

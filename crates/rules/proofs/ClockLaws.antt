@@ -6,11 +6,11 @@ use mathlib.Core.Bool.{Bool, true, false}
 use native.Mathlib.Omega.{arith}
 use lib.IntN.{pos}
 use lib.Signed.{mag}
-use lib.Dec.{ltb}
+use lib.Dec.{leb, ltb}
 use borrow.Author.Tests.{lt-ltb, le-ltb, le-leb, ltb-true, ltb-false}
 use Rattle.rules.specs.Times.{lastTime}
 use Rattle.rules.specs.Answers.{Report, accepted}
-use Rattle.rules.specs.Clock.{wrapped, signTurn, signed, plus, clockStep, clockRefusal, clockOf, widenedTimes, TrueTimes, readingAt}
+use Rattle.rules.specs.Clock.{wrapped, signBit, signed, plus, clockStep, clockRefusal, clockOf, widenedTimes, TrueTimes, readingAt}
 
 -- The wrapped difference of two true times not too far apart is their difference.
 wrapped-true : (before now : ℕ) → before ≤ now → now ≤ before + 2_147_483_647 → wrapped before (readingAt now) ≡ now - before
@@ -21,7 +21,7 @@ module _ (before now : ℕ) (h : before ≤ now) (k : now ≤ before + 2_147_483
   true-step : clockStep before (readingAt now) ≡ pos (now - before)
   unfolding clockStep
   true-step =
-      rw (le-leb before lastTime (omega arith), wrapped-true before now h k, lt-ltb (now - before) signTurn (omega arith))
+      rw (le-leb before lastTime (omega arith), wrapped-true before now h k, lt-ltb (now - before) signBit (omega arith))
 
   true-sum : before + (now - before) ≡ now
   true-sum = omega arith
@@ -33,21 +33,25 @@ module _ (before now : ℕ) (h : before ≤ now) (k : now ≤ before + 2_147_483
 
 -- The step lies from -2,147,483,648 to 2,147,483,647: `mag` of n and of -(n + 1) is n.
 signed-range : (d : ℕ) → d < 2 ^ 32 → mag (signed d) < 2 ^ 31
-signed-range d h = go (ltb d signTurn) refl
+signed-range d h = go (ltb d signBit) refl
   where
-    go : (b : Bool) → ltb d signTurn ≡ b → mag (signed d) < 2 ^ 31
-    go true e = let low = ltb-true d signTurn e in rw e (omega arith)
-    go false e = let high = ltb-false d signTurn e in rw (e, lt-ltb d (2 ^ 32) h) (omega arith)
+    go : (b : Bool) → ltb d signBit ≡ b → mag (signed d) < 2 ^ 31
+    go true e = let low = ltb-true d signBit e in rw e (omega arith)
+    go false e = let high = ltb-false d signBit e in rw (e, lt-ltb d (2 ^ 32) h) (omega arith)
 
-pub step-range : (latest reading : ℕ) → latest ≤ lastTime → mag (clockStep latest reading) < 2 ^ 31
+pub step-range : (latest reading : ℕ) → mag (clockStep latest reading) < 2 ^ 31
 unfolding clockStep
-step-range latest reading h = rw (le-leb latest lastTime h) (signed-range (wrapped latest reading) (omega arith))
+step-range latest reading = go (leb latest lastTime) refl
+  where
+    go : (b : Bool) → leb latest lastTime ≡ b → mag (clockStep latest reading) < 2 ^ 31
+    go true e = rw e (signed-range (wrapped latest reading) (omega arith))
+    go false e = rw e (omega arith)
 
 -- The latest time and the step together show the reading, whatever rolled over.
 signed-lands : (latest d : ℕ) → d < 2 ^ 32 → plus (latest + 2 ^ 32) (signed d) % 2 ^ 32 ≡ (latest + d) % 2 ^ 32
-signed-lands latest d h = go (ltb d signTurn) refl
+signed-lands latest d h = go (ltb d signBit) refl
   where
-    go : (b : Bool) → ltb d signTurn ≡ b → plus (latest + 2 ^ 32) (signed d) % 2 ^ 32 ≡ (latest + d) % 2 ^ 32
+    go : (b : Bool) → ltb d signBit ≡ b → plus (latest + 2 ^ 32) (signed d) % 2 ^ 32 ≡ (latest + d) % 2 ^ 32
     go true e = rw e (omega arith)
     go false e = rw (e, lt-ltb d (2 ^ 32) h) (omega arith)
 

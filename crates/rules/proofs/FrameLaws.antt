@@ -1,18 +1,19 @@
 -- The laws of the frame, each over every frame.
-use Prim.Native.Nat.{ℕ, _≤_, _<_, _^_}
+use Prim.Native.Nat.{ℕ, _+_, _≤_, _<_, _^_}
 use mathlib.Core.Path.{_≡_, refl, sym, ap, _∙_}
 use mathlib.Core.List.{List, [], _∷_, _++_}
 use mathlib.Core.Bool.{Bool, true, false, not, _&&_}
+use mathlib.Core.Option.{none}
 use native.Mathlib.Omega.{arith}
 use lib.ListN.{length, take, drop, length-append}
 use lib.Seq.{take-add}
 use lib.Pow.{areBytes}
 use lib.Dec.{ltb, eqb}
 use borrow.Author.Tests.{lt-ltb, ltb-true, ltb-false, le-ltb, eqb-true}
-use Rattle.rules.specs.Bytes.{bytesOf, numberAt, sameBytes}
+use Rattle.rules.specs.Bytes.{bytesOf, numberOf, numberAt, sameBytes}
 use Rattle.rules.specs.Answers.{accepted, _if_else_}
-use Rattle.rules.specs.Frame.{frameBytes, requestHeader, probe, announcement, knownOperation, frameOf, isArp, readRefusal, readOf, isHardware, isWritable, writeRefusal, framePut, writeOf, writeOut}
-use Rattle.rules.proofs.BytesLaws.{and-both, number-bytes-fits, numberAt-lt, numberAt-bytes, same-equal}
+use Rattle.rules.specs.Frame.{frameBytes, requestHeader, probe, announcement, isKnownOperation, frameOf, isKnownFrame, readRefusal, readOf, isHardware, isWritable, writeRefusal, framePut, writeOf, writeOut}
+use Rattle.rules.proofs.BytesLaws.{and-both, number-bytes-fits, part-append, numberAt-lt, numberAt-bytes, same-equal}
 use Rattle.rules.specs.declared.Ipv4Address.{Ipv4Address}
 use Rattle.rules.specs.declared.HardwareAddress.{HardwareAddress}
 use Rattle.rules.specs.declared.Host.{Host}
@@ -62,10 +63,10 @@ unfolding frameBytes announcement
 whole-case-announcement = refl
 
 -- Where no refusal is given, neither row of the two applies.
-neither : (n m : ℕ) (a b : Bool) → 0 < n → 0 < m → n if a else m if not b else 0 ≡ 0 → (a ≡ false) × (b ≡ true)
-neither n m true b hn hm e = absurd (omega arith)
-neither n m false true hn hm e = (refl, refl)
-neither n m false false hn hm e = absurd (omega arith)
+neither : (n m : ℕ) (a b : Bool) → n if a else m if not b else none ≡ none → (a ≡ false) × (b ≡ true)
+neither n m true b e = (cc, cc)
+neither n m false true e = (refl, refl)
+neither n m false false e = (refl, cc)
 
 -- An IPv4 address has 32 bits.
 abbrev pub Is32 : Ipv4Address → Type 0
@@ -73,15 +74,15 @@ Is32 address = address .0 < 2 ^ 32
 
 -- What a frame that can be written has.
 record Writable (f : Frame) : Type 0 where
-  operation-known : knownOperation (f .operation) ≡ true
+  operation-known : isKnownOperation (f .operation) ≡ true
   sender-hardware : f .sender .hardware .0 < 2 ^ 48
   target-hardware : f .target .hardware .0 < 2 ^ 48
 
 writable : (f : Frame) → isWritable f ≡ true → Writable f
 unfolding isWritable
 writable f h =
-    let both = and-both (knownOperation (f .operation) && isHardware (f .sender .hardware)) (isHardware (f .target .hardware)) h in
-    let first = and-both (knownOperation (f .operation)) (isHardware (f .sender .hardware)) (both .0) in
+    let both = and-both (isKnownOperation (f .operation) && isHardware (f .sender .hardware)) (isHardware (f .target .hardware)) h in
+    let first = and-both (isKnownOperation (f .operation)) (isHardware (f .sender .hardware)) (both .0) in
     record {
       operation-known = first .0;
       sender-hardware = ltb-true (f .sender .hardware .0) (2 ^ 48) (first .1);
@@ -89,7 +90,7 @@ writable f h =
     }
 
 -- Operation 1 or 2 fits two bytes.
-known-fits : (operation : ℕ) → knownOperation operation ≡ true → operation < 256 ^ 2
+known-fits : (operation : ℕ) → isKnownOperation operation ≡ true → operation < 256 ^ 2
 known-fits operation h = go (eqb operation 1) refl
   where
     go : (b : Bool) → eqb operation 1 ≡ b → operation < 256 ^ 2
@@ -97,20 +98,20 @@ known-fits operation h = go (eqb operation 1) refl
     go false e = let two = eqb-true operation 2 (rw e at h) in omega arith
 
 -- What an accepted write and an accepted read say of what they were given.
-pub write-accepted : (f : Frame) (room : ℕ) → writeRefusal f room ≡ 0 → (28 ≤ room) × (isWritable f ≡ true)
+pub write-accepted : (f : Frame) (room : ℕ) → writeRefusal f room ≡ none → (28 ≤ room) × (isWritable f ≡ true)
 unfolding writeRefusal
 write-accepted f room e =
-    let facts = neither 5 7 (ltb room 28) (isWritable f) (omega arith) (omega arith) e in
+    let facts = neither 5 7 (ltb room 28) (isWritable f) e in
     (ltb-false room 28 (facts .0), facts .1)
 
-write-passes : (f : Frame) (room : ℕ) → 28 ≤ room → isWritable f ≡ true → writeRefusal f room ≡ 0
+write-passes : (f : Frame) (room : ℕ) → 28 ≤ room → isWritable f ≡ true → writeRefusal f room ≡ none
 unfolding writeRefusal
 write-passes f room h w = rw (le-ltb room 28 h, w)
 
-pub read-accepted : (bytes : List ℕ) → readRefusal bytes ≡ 0 → (28 ≤ length bytes) × (isArp bytes ≡ true)
+pub read-accepted : (bytes : List ℕ) → readRefusal bytes ≡ none → (28 ≤ length bytes) × (isKnownFrame bytes ≡ true)
 unfolding readRefusal
 read-accepted bytes e =
-    let facts = neither 6 7 (ltb (length bytes) 28) (isArp bytes) (omega arith) (omega arith) e in
+    let facts = neither 6 7 (ltb (length bytes) 28) (isKnownFrame bytes) e in
     (ltb-false (length bytes) 28 (facts .0), facts .1)
 
 -- The fields of a frame that starts any list of bytes.
@@ -131,9 +132,9 @@ frame-fields f rest w hs ht =
     }
 
 -- A frame that was written reads as ours.
-frame-is-arp : (f : Frame) (rest : List ℕ) → knownOperation (f .operation) ≡ true → isArp (frameBytes f ++ rest) ≡ true
-unfolding isArp frameBytes
-frame-is-arp f rest k = rw (number-bytes-fits 2 (f .operation) (known-fits (f .operation) k)) k
+frame-is-known : (f : Frame) (rest : List ℕ) → isKnownOperation (f .operation) ≡ true → isKnownFrame (frameBytes f ++ rest) ≡ true
+unfolding isKnownFrame frameBytes
+frame-is-known f rest k = rw (number-bytes-fits 2 (f .operation) (known-fits (f .operation) k)) k
 
 -- A frame at the start of any list of bytes is read.
 frame-reads : (f : Frame) (rest : List ℕ) → isWritable f ≡ true → Is32 (f .sender .ip) → Is32 (f .target .ip) →
@@ -141,7 +142,7 @@ frame-reads : (f : Frame) (rest : List ℕ) → isWritable f ≡ true → Is32 (
 unfolding readOf readRefusal
 frame-reads f rest h hs ht =
     let w = writable f h in
-    rw (le-ltb (length (frameBytes f ++ rest)) 28 long, frame-is-arp f rest (w .operation-known))
+    rw (le-ltb (length (frameBytes f ++ rest)) 28 long, frame-is-known f rest (w .operation-known))
     (ap accepted (frame-fields f rest w hs ht))
   where
     long : 28 ≤ length (frameBytes f ++ rest)
@@ -149,22 +150,52 @@ frame-reads f rest h hs ht =
 
 -- What was written reads back to the same fields.
 pub written-reads-back : (f : Frame) (out : List ℕ) → Is32 (f .sender .ip) → Is32 (f .target .ip) →
-    writeRefusal f (length out) ≡ 0 → readOf (writeOut f out) ≡ accepted f
+    writeRefusal f (length out) ≡ none → readOf (writeOut f out) ≡ accepted f
 unfolding writeOut framePut
 written-reads-back f out hs ht e =
     rw e (frame-reads f (drop 28 out) (write-accepted f (length out) e .1) hs ht)
 
+-- Bytes after the 28th are ignored.
+module _ (bytes rest : List ℕ) (long : 28 ≤ length bytes) where
+  field-ignores : (i n : ℕ) → i + n ≤ 28 → numberAt i n (bytes ++ rest) ≡ numberAt i n bytes
+  field-ignores i n h = ap numberOf (part-append n i bytes rest (omega arith))
+
+  frame-ignores : frameOf (bytes ++ rest) ≡ frameOf bytes
+  unfolding frameOf
+  frame-ignores =
+      rw (
+        field-ignores 6 2 (omega arith),
+        field-ignores 8 6 (omega arith),
+        field-ignores 14 4 (omega arith),
+        field-ignores 18 6 (omega arith),
+        field-ignores 24 4 (omega arith),
+      )
+
+  known-ignores : isKnownFrame (bytes ++ rest) ≡ isKnownFrame bytes
+  unfolding isKnownFrame
+  known-ignores = rw (part-append 6 0 bytes rest (omega arith), field-ignores 6 2 (omega arith))
+
+  pub read-ignores-rest : readOf (bytes ++ rest) ≡ readOf bytes
+  unfolding readOf readRefusal
+  read-ignores-rest =
+      rw (
+        frame-ignores,
+        known-ignores,
+        le-ltb (length bytes) 28 long,
+        le-ltb (length (bytes ++ rest)) 28 (rw length-append (omega arith)),
+      )
+
 -- A list of at least 28 bytes that begin as ours do: what the fields read from it are made of.
-module _ (bytes : List ℕ) (small : areBytes bytes ≡ true) (long : 28 ≤ length bytes) (arp : isArp bytes ≡ true) where
-  arp-parts : (sameBytes (take 6 bytes) (take 6 requestHeader) ≡ true) × (knownOperation (numberAt 6 2 bytes) ≡ true)
-  unfolding isArp
-  arp-parts = and-both (sameBytes (take 6 bytes) (take 6 requestHeader)) (knownOperation (numberAt 6 2 bytes)) arp
+module _ (bytes : List ℕ) (small : areBytes bytes ≡ true) (long : 28 ≤ length bytes) (known : isKnownFrame bytes ≡ true) where
+  known-parts : (sameBytes (take 6 bytes) (take 6 requestHeader) ≡ true) × (isKnownOperation (numberAt 6 2 bytes) ≡ true)
+  unfolding isKnownFrame
+  known-parts = and-both (sameBytes (take 6 bytes) (take 6 requestHeader)) (isKnownOperation (numberAt 6 2 bytes)) known
 
   fields-writable : isWritable (frameOf bytes) ≡ true
   unfolding isWritable frameOf
   fields-writable =
       rw (
-        arp-parts .1,
+        known-parts .1,
         lt-ltb (numberAt 8 6 bytes) (2 ^ 48) (numberAt-lt 6 8 bytes small (omega arith)),
         lt-ltb (numberAt 18 6 bytes) (2 ^ 48) (numberAt-lt 6 18 bytes small (omega arith)),
       )
@@ -179,7 +210,7 @@ module _ (bytes : List ℕ) (small : areBytes bytes ≡ true) (long : 28 ≤ len
     where
       pieces : frameBytes (frameOf bytes) ≡ take 6 bytes ++ take 2 (drop 6 bytes) ++ take 6 (drop 8 bytes) ++ take 4 (drop 14 bytes) ++ take 6 (drop 18 bytes) ++ take 4 (drop 24 bytes)
       pieces =
-          λ i. sym (same-equal (take 6 bytes) (take 6 requestHeader) (arp-parts .0)) i
+          λ i. sym (same-equal (take 6 bytes) (take 6 requestHeader) (known-parts .0)) i
           ++ numberAt-bytes 2 6 bytes small (omega arith) i
           ++ numberAt-bytes 6 8 bytes small (omega arith) i
           ++ numberAt-bytes 4 14 bytes small (omega arith) i
@@ -187,7 +218,7 @@ module _ (bytes : List ℕ) (small : areBytes bytes ≡ true) (long : 28 ≤ len
           ++ numberAt-bytes 4 24 bytes small (omega arith) i
 
 -- What was read, written again, gives the same 28 bytes.
-pub read-writes-again : (bytes out : List ℕ) → areBytes bytes ≡ true → readRefusal bytes ≡ 0 → 28 ≤ length out →
+pub read-writes-again : (bytes out : List ℕ) → areBytes bytes ≡ true → readRefusal bytes ≡ none → 28 ≤ length out →
     (writeOf (frameOf bytes) (length out) ≡ accepted tt) × (writeOut (frameOf bytes) out ≡ take 28 bytes ++ drop 28 out)
 unfolding writeOf writeOut framePut
 read-writes-again bytes out small e room =

@@ -1,16 +1,16 @@
 -- Document 01's numbers and values for each case of an answer.
-use Prim.Native.Nat.{ℕ, zero, suc}
+use Prim.Native.Nat.{ℕ}
 use mathlib.Core.Bool.{Bool, true, false}
 use mathlib.Core.List.{List, [], _∷_}
 use mathlib.Core.Option.{Option, none, some}
 use Rattle.rules.specs.declared.Refusal.{Refusal}
-use Rattle.rules.specs.declared.Refusal.the-variants.{StateNotSound, HardwareNotAllowed, TimeAboveRange, TimeBelowLatest, BufferTooShort, PacketTooShort, NotArp, AddressNotAllowed, PolicyUnknown, AddressHeld, NoSlotFree, TooManyRequests, SlotNotHeld, LineMalformed}
+use Rattle.rules.specs.declared.Refusal.the-variants.{StateNotSound, HardwareNotAllowed, TimeAboveRange, TimeBelowLatest, BufferTooShort, PacketTooShort, FrameUnknown, AddressNotAllowed, PolicyUnknown, AddressHeld, NoSlotFree, TooManyRequests, SlotNotHeld, LineMalformed}
 use Rattle.rules.specs.declared.Kind.{Kind}
 use Rattle.rules.specs.declared.Kind.the-variants.{Fresh, Taken, Nothing, Probe, Announce, Defend, Lost, Kept, Dropped}
 use Rattle.rules.specs.declared.Moment.{Moment}
 use Rattle.rules.specs.declared.Moment.the-variants.{Never, At}
-use Rattle.rules.specs.declared.Slot.{Slot}
-use Rattle.rules.specs.declared.Slot.the-variants.{Absent, Number}
+use Rattle.rules.specs.declared.SlotNumber.{SlotNumber}
+use Rattle.rules.specs.declared.SlotNumber.the-variants.{Absent, Slot}
 use Rattle.rules.specs.declared.Answer.{Answer}
 use Rattle.rules.specs.declared.Answer.the-variants as Answer
 
@@ -22,7 +22,7 @@ refusalNumber TimeAboveRange = 3
 refusalNumber TimeBelowLatest = 4
 refusalNumber BufferTooShort = 5
 refusalNumber PacketTooShort = 6
-refusalNumber NotArp = 7
+refusalNumber FrameUnknown = 7
 refusalNumber AddressNotAllowed = 8
 refusalNumber PolicyUnknown = 9
 refusalNumber AddressHeld = 10
@@ -31,26 +31,26 @@ refusalNumber TooManyRequests = 12
 refusalNumber SlotNotHeld = 13
 refusalNumber LineMalformed = 14
 
--- "The lowest number that applies is given, and none is given otherwise": `5 if a else 7 if b else 0`, where 0 is none.
+-- "The lowest number that applies is given, and none is given otherwise": `5 if a else 7 if b else none`.
 infixr 20 _if_else_
-abbrev pub _if_else_ : ℕ → Bool → ℕ → ℕ
-n if true else m = n
-n if false else m = m
+abbrev pub _if_else_ : ℕ → Bool → Option ℕ → Option ℕ
+n if true else rest = some n
+n if false else rest = rest
 
 -- What a call reports: "its number alone", or what an accepted call has to say.
 pub data Report (A : Type 0) : Type 0 where
   refused : ℕ → Report A
   accepted : A → Report A
 
--- The report of a call with this refusal number, or 0 for none.
-abbrev pub reported : {A : Type 0} → ℕ → A → Report A
-reported zero a = accepted a
-reported (suc n) a = refused (suc n)
+-- The report of a call with this refusal, or none.
+abbrev pub reported : {A : Type 0} → Option ℕ → A → Report A
+reported none a = accepted a
+reported (some n) a = refused n
 
--- What a call with this refusal number leaves of a state or a lent buffer: refused, the old; accepted, the new.
-abbrev pub leaves : {A : Type 0} → ℕ → A → A → A
-leaves zero old new = new
-leaves (suc n) old new = old
+-- What a call with this refusal, or none, leaves of a state or a lent buffer: refused, the old; accepted, the new.
+abbrev pub leaves : {A : Type 0} → Option ℕ → A → A → A
+leaves none old new = new
+leaves (some n) old new = old
 
 -- "Kinds: fresh, taken, none, probe, announce, defend, lost, kept, dropped", as their letters' codes.
 unfoldable pub kindWord : Kind → List ℕ
@@ -65,13 +65,13 @@ kindWord Kept = 107 ∷ 101 ∷ 112 ∷ 116 ∷ []
 kindWord Dropped = 100 ∷ 114 ∷ 111 ∷ 112 ∷ 112 ∷ 101 ∷ 100 ∷ []
 
 -- "The slot concerned or none, and the smallest deadline left or none."
-abbrev pub slotNumber : Slot → Option ℕ
-slotNumber Absent = none
-slotNumber (Number n) = some n
+abbrev pub slotOf : SlotNumber → Option ℕ
+slotOf Absent = none
+slotOf (Slot n) = some n
 
-abbrev pub momentTime : Moment → Option ℕ
-momentTime Never = none
-momentTime (At time) = some (time .0)
+abbrev pub timeOf : Moment → Option ℕ
+timeOf Never = none
+timeOf (At time) = some (time .0)
 
 -- "Every accepted call reports a kind, the slot concerned or none, and the smallest deadline left or none."
 pub record Accepted : Type 0 where
@@ -83,4 +83,4 @@ pub record Accepted : Type 0 where
 unfoldable pub answerReport : Answer → Report Accepted
 answerReport (Answer.Refused refusal) = refused (refusalNumber refusal)
 answerReport (Answer.Accepted kind slot next) =
-    accepted (record { kind = kindWord kind; slot = slotNumber slot; next = momentTime next })
+    accepted (record { kind = kindWord kind; slot = slotOf slot; next = timeOf next })

@@ -5,15 +5,10 @@ use mathlib.Core.Bool.{Bool, true, false, _&&_}
 use lib.ListN.{length, take, drop}
 use lib.Dec.{eqb}
 
--- Byte k of a number, counted from the least significant.
-abbrev pub byteOf : ℕ → ℕ → ℕ
-byteOf zero x = x % 256
-byteOf (suc k) x = x / 256 ^ suc k % 256
-
 -- The last n bytes of a number: all of them where the number is below 256 ^ n.
 abbrev pub bytesOf : ℕ → ℕ → List ℕ
 bytesOf zero x = []
-bytesOf (suc n) x = byteOf n x ∷ bytesOf n x
+bytesOf (suc n) x = x / 256 ^ n % 256 ∷ bytesOf n x
 
 -- The number that bytes stand for.
 abbrev pub numberOf : List ℕ → ℕ

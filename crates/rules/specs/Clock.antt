@@ -2,6 +2,7 @@
 use Prim.Native.Nat.{ℕ, suc, _+_, _-_, _%_, _^_, _≤_}
 use mathlib.Core.Bool.{Bool, true, false, cond}
 use mathlib.Core.List.{List, [], _∷_}
+use mathlib.Core.Option.{Option, none}
 use lib.IntN.{ℤ, pos, negsuc, _-ℤ_}
 use lib.Dec.{leb, ltb}
 use Rattle.rules.specs.Times.{lastTime}
@@ -13,19 +14,18 @@ use Rattle.rules.specs.declared.ClockAnswer.the-variants.{Refused, Widen
 abbrev pub wrapped : ℕ → ℕ → ℕ
 wrapped latest reading = (reading + (2 ^ 32 - latest % 2 ^ 32)) % 2 ^ 32
 
--- "Read as a signed number from -2,147,483,648 to 2,147,483,647": from 2,147,483,648 on a difference stands for one that is
--- 2^32 less.
-abbrev pub signTurn : ℕ
-signTurn = 2_147_483_648
+-- "Read as a signed number from -2,147,483,648 to 2,147,483,647": with the sign bit a difference stands for one 2^32 less.
+abbrev pub signBit : ℕ
+signBit = 2_147_483_648
 
 abbrev pub signed : ℕ → ℤ
-signed d = cond (ltb d signTurn) (pos d) (pos d -ℤ pos (2 ^ 32))
+signed d = cond (ltb d signBit) (pos d) (pos d -ℤ pos (2 ^ 32))
 
 abbrev pub isNegative : ℤ → Bool
 isNegative (pos n) = false
 isNegative (negsuc n) = true
 
--- A time and a step added.
+-- A time and a step added, down to time 0.
 abbrev pub plus : ℕ → ℤ → ℕ
 plus time (pos n) = time + n
 plus time (negsuc n) = time - suc n
@@ -35,11 +35,11 @@ unfoldable pub clockStep : ℕ → ℕ → ℤ
 clockStep latest reading = cond (leb latest lastTime) (signed (wrapped latest reading)) (pos 0)
 
 -- "Negative: refusal 4. Else the new time is the latest plus the step, or refusal 3 if above the range."
-unfoldable pub clockRefusal : ℕ → ℕ → ℕ
+unfoldable pub clockRefusal : ℕ → ℕ → Option ℕ
 clockRefusal latest reading =
     3 if ltb lastTime latest else
     4 if isNegative (clockStep latest reading) else
-    3 if ltb lastTime (plus latest (clockStep latest reading)) else 0
+    3 if ltb lastTime (plus latest (clockStep latest reading)) else none
 
 -- "The step is reported in all these cases": it stands beside the new time or the refusal.
 pub record ClockReport : Type 0 where

@@ -1,6 +1,7 @@
 -- Document 01, "The frame", and the calls Read and Write.
 use Prim.Native.Nat.{ℕ, _^_}
 use mathlib.Core.List.{List, [], _∷_, _++_}
+use mathlib.Core.Option.{Option, none}
 use mathlib.Core.Bool.{Bool, not, _&&_, _||_}
 use lib.ListN.{length, take, drop}
 use lib.Dec.{eqb, ltb}
@@ -51,8 +52,8 @@ announcement ours address =
     }
 
 -- "The reader takes operation 1 or 2."
-abbrev pub knownOperation : ℕ → Bool
-knownOperation operation = eqb operation 1 || eqb operation 2
+abbrev pub isKnownOperation : ℕ → Bool
+isKnownOperation operation = eqb operation 1 || eqb operation 2
 
 -- Read: "operation and the four addresses", of the first 28 bytes.
 unfoldable pub frameOf : List ℕ → Frame
@@ -64,29 +65,29 @@ frameOf bytes =
     }
 
 -- Whether the first six bytes are ours and the operation is 1 or 2.
-unfoldable pub isArp : List ℕ → Bool
-isArp bytes = sameBytes (take 6 bytes) (take 6 requestHeader) && knownOperation (numberAt 6 2 bytes)
+unfoldable pub isKnownFrame : List ℕ → Bool
+isKnownFrame bytes = sameBytes (take 6 bytes) (take 6 requestHeader) && isKnownOperation (numberAt 6 2 bytes)
 
 -- The refusal of a read: 6, "packet under 28 bytes"; 7, "first six bytes other than ours, or operation not 1 or 2".
-unfoldable pub readRefusal : List ℕ → ℕ
-readRefusal bytes = 6 if ltb (length bytes) 28 else 7 if not (isArp bytes) else 0
+unfoldable pub readRefusal : List ℕ → Option ℕ
+readRefusal bytes = 6 if ltb (length bytes) 28 else 7 if not (isKnownFrame bytes) else none
 
 -- Read, for any bytes.
 unfoldable pub readOf : List ℕ → Report Frame
 readOf bytes = reported (readRefusal bytes) (frameOf bytes)
 
--- Whether a number is a hardware address: 48 bits.
+-- Whether a number is a hardware address, which has 48 bits.
 abbrev pub isHardware : HardwareAddress → Bool
 isHardware address = ltb (address .0) (2 ^ 48)
 
--- Whether a frame can be written: operation 1 or 2, and hardware addresses that are some.
+-- Whether a frame can be written: operation 1 or 2, and two hardware addresses of 48 bits.
 unfoldable pub isWritable : Frame → Bool
-isWritable f = knownOperation (f .operation) && isHardware (f .sender .hardware) && isHardware (f .target .hardware)
+isWritable f = isKnownOperation (f .operation) && isHardware (f .sender .hardware) && isHardware (f .target .hardware)
 
--- The refusal of a write: 5, "out buffer under 28 bytes"; 7, "operation not 1 or 2", or a number that is no hardware
--- address.
-unfoldable pub writeRefusal : Frame → ℕ → ℕ
-writeRefusal f room = 5 if ltb room 28 else 7 if not (isWritable f) else 0
+-- The refusal of a write: 5, "out buffer under 28 bytes"; 7, "operation not 1 or 2". Document 01 is silent on a number that
+-- is no hardware address: it is 7 too (docs/DECISIONS.md, 2).
+unfoldable pub writeRefusal : Frame → ℕ → Option ℕ
+writeRefusal f room = 5 if ltb room 28 else 7 if not (isWritable f) else none
 
 -- "The 28 bytes at the start of the out buffer, the rest untouched."
 unfoldable pub framePut : Frame → List ℕ → List ℕ

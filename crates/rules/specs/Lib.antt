@@ -1,4 +1,4 @@
--- Document 01 as definitions, in its order.
+-- Document 01 as definitions.
 pub mod Times
 pub mod Bytes
 pub mod Answers

@@ -4,10 +4,10 @@
 // An IPv4 address, its first byte the most significant.
 pub struct Ipv4Address(pub u32);
 
-// A time in whole milliseconds.
+// A time in whole milliseconds. Times run from 0 to 2^48 - 1; a larger number is refused, but a deadline may be larger.
 pub struct Time(pub u64);
 
-// A hardware address: 48 bits, its first byte the most significant. A larger number stands for no address.
+// A hardware address: 48 bits, its first byte the most significant. A larger number stands for no address and is refused.
 pub struct HardwareAddress(pub u64);
 
 // One of an ARP packet's two pairs of addresses.
@@ -29,24 +29,24 @@ pub enum Moment {
     At(Time),
 }
 
-// A slot that may be missing.
-pub enum Slot {
+// The number of a slot, which may be missing.
+pub enum SlotNumber {
     Absent,
-    Number(u64),
+    Slot(u64),
 }
 
 // How far a slot's claim has come.
 pub enum Stage {
     Free,
-    // Probing, with this many probes sent.
+    // With this many probes sent.
     Probing { sent: u8, deadline: Time },
-    // Announced once. From here on the address is usable.
+    // Announced once, and so usable. `conflict` is the last one seen in this use.
     Announced { deadline: Time, conflict: Moment },
-    // Announced twice. `conflict` is the last one seen in this use.
+    // Announced twice.
     Settled { conflict: Moment },
 }
 
-// A slot's record. A free one has address and policy zero.
+// A slot's record. In a free one address and policy say nothing.
 pub struct Record {
     pub address: Ipv4Address,
     pub policy: u8,
@@ -54,7 +54,7 @@ pub struct Record {
 }
 
 // A network port: its own hardware address, the latest accepted time, the latest accepted request, how many conflicts
-// there were (10 stands for more), and its four slots.
+// there were (10: ten or more), and its four slots.
 pub struct Interface {
     pub hardware: HardwareAddress,
     pub latest: Time,
@@ -63,22 +63,22 @@ pub struct Interface {
     pub records: [Record; 4],
 }
 
-// Why a call is refused, by document 01's numbers.
+// Why a call is refused, in the order of document 01's numbers, 1 to 14.
 pub enum Refusal {
-    StateNotSound = 1,
-    HardwareNotAllowed = 2,
-    TimeAboveRange = 3,
-    TimeBelowLatest = 4,
-    BufferTooShort = 5,
-    PacketTooShort = 6,
-    NotArp = 7,
-    AddressNotAllowed = 8,
-    PolicyUnknown = 9,
-    AddressHeld = 10,
-    NoSlotFree = 11,
-    TooManyRequests = 12,
-    SlotNotHeld = 13,
-    LineMalformed = 14,
+    StateNotSound,
+    HardwareNotAllowed,
+    TimeAboveRange,
+    TimeBelowLatest,
+    BufferTooShort,
+    PacketTooShort,
+    FrameUnknown,
+    AddressNotAllowed,
+    PolicyUnknown,
+    AddressHeld,
+    NoSlotFree,
+    TooManyRequests,
+    SlotNotHeld,
+    LineMalformed,
 }
 
 // What an accepted call did.
@@ -94,12 +94,12 @@ pub enum Kind {
     Dropped,
 }
 
-// The answer of fresh, ask, tick, packet and drop. `next` is the smallest deadline left.
+// The answer of fresh, ask, tick, packet and drop, beside the new state. `next` is the smallest deadline left.
 pub enum Answer {
     Refused(Refusal),
     Accepted {
         kind: Kind,
-        slot: Slot,
+        slot: SlotNumber,
         next: Moment,
     },
 }

@@ -4,8 +4,8 @@ use Rattle.frame_reader.proofs.Laws.{read-short, read-whole, read-forei
 use Rattle.frame_reader.proofs.read.Statement.{statement}
 use Rattle.frame_reader.proofs.read.Tie as tie
 
-is-arp-requires : tie.Need-is-arp-requires
-is-arp-requires c κs = search needs
+is-known-frame-requires : tie.Need-is-known-frame-requires
+is-known-frame-requires c κs = search needs
 
 fields-requires : tie.Need-fields-requires
 fields-requires c κs = search needs
@@ -20,4 +20,4 @@ returns-3 : tie.Need-returns-3
 returns-3 c = search read-foreign
 
 pub read-spec : {M : Type 1} → statement M
-read-spec = tie.close (tie.spec is-arp-requires fields-requires returns returns-2 returns-3)
+read-spec = tie.close (tie.spec is-known-frame-requires fields-requires returns returns-2 returns-3)

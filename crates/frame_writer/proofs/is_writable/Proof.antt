@@ -4,8 +4,8 @@ use Rattle.frame_writer.proofs.Laws.{good-sender, bad-sender, unknown-o
 use Rattle.frame_writer.proofs.is_writable.Statement.{statement}
 use Rattle.frame_writer.proofs.is_writable.Tie as tie
 
-is-known-requires : tie.Need-is-known-requires
-is-known-requires c κs = search needs
+is-known-operation-requires : tie.Need-is-known-operation-requires
+is-known-operation-requires c κs = search needs
 
 returns : tie.Need-returns
 returns c = search good-sender
@@ -17,4 +17,4 @@ returns-3 : tie.Need-returns-3
 returns-3 c = search unknown-operation
 
 pub is-writable-spec : {M : Type 1} → statement M
-is-writable-spec = tie.close (tie.spec is-known-requires returns returns-2 returns-3)
+is-writable-spec = tie.close (tie.spec is-known-operation-requires returns returns-2 returns-3)

@@ -1,8 +1,8 @@
--- `frame_reader::is_arp`: six equal bytes and the operation, or bytes that differ.
+-- `frame_reader::is_known_frame`: six equal bytes and the operation, or bytes that differ.
 use borrow.Author.Needs.{needs}
 use Rattle.frame_reader.proofs.Laws.{prefix-length, header-same, header-differs}
-use Rattle.frame_reader.proofs.is_arp.Statement.{statement}
-use Rattle.frame_reader.proofs.is_arp.Tie as tie
+use Rattle.frame_reader.proofs.is_known_frame.Statement.{statement}
+use Rattle.frame_reader.proofs.is_known_frame.Tie as tie
 
 slice-aggregate-same : tie.Need-slice-aggregate-same
 slice-aggregate-same c = search (prefix-length, needs)
@@ -25,8 +25,8 @@ shared-slice-read-number2-2 c = search needs
 number2-requires : tie.Need-number2-requires
 number2-requires c κs = search needs
 
-is-known-requires : tie.Need-is-known-requires
-is-known-requires c κs = search needs
+is-known-operation-requires : tie.Need-is-known-operation-requires
+is-known-operation-requires c κs = search needs
 
 returns : tie.Need-returns
 returns c = search header-same
@@ -34,8 +34,8 @@ returns c = search header-same
 returns-2 : tie.Need-returns-2
 returns-2 c = search header-differs
 
-pub is-arp-spec : {M : Type 1} → statement M
-is-arp-spec =
+pub is-known-frame-spec : {M : Type 1} → statement M
+is-known-frame-spec =
     tie.close
     (tie.spec
     slice-aggregate-same
@@ -45,6 +45,6 @@ is-arp-spec =
     shared-slice-read-number2
     shared-slice-read-number2-2
     number2-requires
-    is-known-requires
+    is-known-operation-requires
     returns
     returns-2)
