@@ -12,20 +12,31 @@ use Rattle.rules.specs.Bytes.{numberOf, numberAt, sameBytes}
 use Rattle.rules.specs.Frame.{requestHeader, isKnownOperation, frameOf, isKnownFrame, readRefusal, readOf}
 use Rattle.rules.specs.declared.Frame.{Frame}
 use Rattle.rules.proofs.BytesLaws.{elements, part-elements, same-equal}
-use Rattle.frame_reader.specs.Parts.{FieldsOf}
 
-pub fields-frame : (bytes : List ℕ) (f : Frame) → 28 ≤ length bytes → FieldsOf bytes f → f ≡ frameOf bytes
+-- Fields that are the numbers of their bytes are those of the frame.
+pub fields-frame : (bytes : List ℕ) → 28 ≤ length bytes →
+    (operation : ℕ) → operation ≡ numberOf (elements 2 6 bytes) →
+    (sender-hardware : ℕ) → sender-hardware ≡ numberOf (elements 6 8 bytes) →
+    (sender-ip : ℕ) → sender-ip ≡ numberOf (elements 4 14 bytes) →
+    (target-hardware : ℕ) → target-hardware ≡ numberOf (elements 6 18 bytes) →
+    (target-ip : ℕ) → target-ip ≡ numberOf (elements 4 24 bytes) →
+    record {
+      operation = operation;
+      sender = record { hardware = record { 0 = sender-hardware }; ip = record { 0 = sender-ip } };
+      target = record { hardware = record { 0 = target-hardware }; ip = record { 0 = target-ip } };
+    }
+    ≡ frameOf bytes
 unfolding frameOf
-fields-frame bytes f h p =
+fields-frame bytes h operation o sh shᵉ si siᵉ th thᵉ ti tiᵉ =
     λ i. record {
-      operation = (p .operation ∙ part 6 2 (omega arith)) i;
+      operation = (o ∙ part 6 2 (omega arith)) i;
       sender = record {
-        hardware = record { 0 = (p .sender-hardware ∙ part 8 6 (omega arith)) i };
-        ip = record { 0 = (p .sender-ip ∙ part 14 4 (omega arith)) i };
+        hardware = record { 0 = (shᵉ ∙ part 8 6 (omega arith)) i };
+        ip = record { 0 = (siᵉ ∙ part 14 4 (omega arith)) i };
       };
       target = record {
-        hardware = record { 0 = (p .target-hardware ∙ part 18 6 (omega arith)) i };
-        ip = record { 0 = (p .target-ip ∙ part 24 4 (omega arith)) i };
+        hardware = record { 0 = (thᵉ ∙ part 18 6 (omega arith)) i };
+        ip = record { 0 = (tiᵉ ∙ part 24 4 (omega arith)) i };
       };
     }
   where
@@ -62,6 +73,6 @@ module _ (bytes : List ℕ) where
     unfolding readOf readRefusal
     read-foreign k = rw (le-ltb (length bytes) 28 long, ← told, k)
 
-    pub read-whole : known ≡ true → (f : Frame) → FieldsOf bytes f → accepted f ≡ readOf bytes
+    pub read-whole : known ≡ true → (f : Frame) → f ≡ frameOf bytes → accepted f ≡ readOf bytes
     unfolding readOf readRefusal
-    read-whole k f p = rw (le-ltb (length bytes) 28 long, ← told, k) (ap accepted (fields-frame bytes f long p))
+    read-whole k f p = rw (le-ltb (length bytes) 28 long, ← told, k) (ap accepted p)

@@ -11,8 +11,7 @@ ghost use mathlib.Core.List.{_∷_, []};
 ghost use Prim.Native.Nat.{_≤_};
 ghost use lib.ListN.{length};
 ghost use Rattle.rules.specs.Bytes.{numberOf};
-ghost use Rattle.rules.specs.Frame.{isKnownFrame, readOf, readReport};
-ghost use Rattle.frame_reader.specs.Parts.{FieldsOf};
+ghost use Rattle.rules.specs.Frame.{isKnownFrame, frameOf, readOf, readReport};
 
 fn number2(a: u8, b: u8) -> u16
     ensures { λ r. ⌜ r ≡ numberOf (a ∷ b ∷ []) ⌝ }
@@ -48,7 +47,7 @@ fn is_known_frame(bytes: &[u8]) -> bool
 // The fields of 28 or more bytes.
 fn fields(bytes: &[u8]) -> Frame
     requires { ⌜ 28 ≤ length (now bytes) ⌝ }
-    ensures { λ r. ⌜ FieldsOf (now (bytes .entry)) r ⌝ }
+    ensures { λ r. ⌜ r ≡ frameOf (now (bytes .entry)) ⌝ }
 {
     let operation = number2(bytes[6], bytes[7]);
     let sender = Host {

@@ -1,7 +1,7 @@
 -- How what the inner functions promise makes up the definitions of the crate rules: a law for each way that a function ends.
-use Prim.Native.Nat.{ℕ, zero, suc, _≤_, _<_, _/_, _%_, _^_}
-use mathlib.Core.Path.{_≡_, refl, sym, ap, _∙_}
-use mathlib.Core.List.{List, [], _∷_, _++_}
+use Prim.Native.Nat.{ℕ, _≤_, _<_, _/_, _%_, _^_}
+use mathlib.Core.Path.{_≡_, sym, _∙_}
+use mathlib.Core.List.{List, _++_}
 use mathlib.Core.Bool.{Bool, true, false}
 use native.Mathlib.Nat.{le-refl, div-one}
 use native.Mathlib.Omega.{arith}
@@ -10,47 +10,27 @@ use lib.Seq.{length-take-le, take-take}
 use lib.Dec.{ltb}
 use borrow.Author.Tests.{lt-ltb, le-ltb}
 use Rattle.rules.specs.Answers.{refusalNumber, refused, accepted}
-use Rattle.rules.specs.Bytes.{bytesOf}
 use Rattle.rules.specs.Frame.{requestHeader, isKnownOperation, frameBytes, isWritable, writeRefusal, writeOf, framePut, writeOut, writeReport}
 use Rattle.rules.specs.declared.Frame.{Frame}
 use Rattle.rules.specs.declared.WriteAnswer.{WriteAnswer}
 use Rattle.rules.specs.declared.WriteAnswer.the-variants.{Refused, Written}
 use Rattle.rules.proofs.AnswersLaws.{accepted-none, refused-leaves}
 use Rattle.rules.proofs.FrameLaws.{frame-length, write-accepted}
-use Rattle.frame_writer.specs.Parts.{places, requestOf, bytesWritten}
-
-places-bytes : (n x : ℕ) → places n x ≡ bytesOf n x
-places-bytes zero x = refl
-places-bytes (suc zero) x = ap (λ (y : ℕ). y % 256 ∷ []) (sym (div-one x))
-places-bytes (suc (suc n)) x = ap (λ (l : List ℕ). x / 256 ^ suc n % 256 ∷ l) (places-bytes (suc n) x)
+use Rattle.frame_writer.specs.Parts.{bytesWritten}
 
 at-most : (answer : WriteAnswer) → bytesWritten answer ≤ 28
 at-most (Refused refusal) = omega arith
 at-most Written = omega arith
 
 module _ (f : Frame) where
-  request-bytes :
-      requestOf f
-      ≡ requestHeader
-      ++ bytesOf 6 (f .sender .hardware .0)
-      ++ bytesOf 4 (f .sender .ip .0)
-      ++ bytesOf 6 (f .target .hardware .0)
-      ++ bytesOf 4 (f .target .ip .0)
-  request-bytes =
-      λ i. requestHeader
-      ++ places-bytes 6 (f .sender .hardware .0) i
-      ++ places-bytes 4 (f .sender .ip .0) i
-      ++ places-bytes 6 (f .target .hardware .0) i
-      ++ places-bytes 4 (f .target .ip .0) i
-
-  module _ (bytes : List ℕ) (told : bytes ≡ requestOf f) where
+  module _ (bytes : List ℕ) (told : bytes ≡ requestHeader ++ drop 8 (frameBytes f)) where
     pub image-request : f .operation ≡ 1 → bytes ≡ frameBytes f
     unfolding frameBytes
-    image-request e = rw (told, e) request-bytes
+    image-request e = rw (told, e)
 
     pub image-other : set (set bytes 6 (f .operation / 256 % 256)) 7 (f .operation % 256) ≡ frameBytes f
     unfolding frameBytes
-    image-other = rw (told ∙ request-bytes, div-one (f .operation))
+    image-other = rw (told, div-one (f .operation))
 
   -- `known` is what the test of the operation answered.
   module _ (known : Bool) (told : known ≡ isKnownOperation (f .operation)) where
@@ -79,19 +59,19 @@ module _ (f : Frame) where
     unfolding writeOf writeRefusal
     write-whole h w = rw (le-ltb room 28 h, ← told, w)
 
-  -- What an answer lets out has room, and leaves the out buffer as a write does.
-  answer-room : (answer : WriteAnswer) (room : ℕ) → writeReport answer ≡ writeOf f room → bytesWritten answer ≤ room
-  unfolding writeOf
-  answer-room (Refused refusal) room e = omega arith
-  answer-room Written room e =
-      let fits = write-accepted f room (accepted-none (writeRefusal f room) tt tt e) in omega arith
-
+  -- What an answer lets out leaves the out buffer as a write does, and has room there.
   answer-leaves : (answer : WriteAnswer) (out : List ℕ) → writeReport answer ≡ writeOf f (length out) →
       take (bytesWritten answer) (frameBytes f) ++ drop (bytesWritten answer) out ≡ writeOut f out
   unfolding writeOut writeOf framePut frameBytes
   answer-leaves (Refused refusal) out e =
       sym (refused-leaves (writeRefusal f (length out)) (refusalNumber refusal) tt out (framePut f out) e)
   answer-leaves Written out e = rw (accepted-none (writeRefusal f (length out)) tt tt e)
+
+  answer-room : (answer : WriteAnswer) (room : ℕ) → writeReport answer ≡ writeOf f room → bytesWritten answer ≤ room
+  unfolding writeOf
+  answer-room (Refused refusal) room e = omega arith
+  answer-room Written room e =
+      let fits = write-accepted f room (accepted-none (writeRefusal f room) tt tt e) in omega arith
 
   module _ (answer : WriteAnswer) (n : ℕ) (count : n ≡ bytesWritten answer) (bytes : List ℕ) (image : bytes ≡ frameBytes f) where
     pub count-fits : n ≤ length bytes

@@ -4,9 +4,10 @@ use rules::Frame;
 use rules::Refusal;
 use rules::WriteAnswer;
 ghost use mathlib.Core.Path.{_≡_};
-ghost use lib.ListN.{length};
-ghost use Rattle.rules.specs.Frame.{isWritable, frameBytes, writeOf, writeOut, writeReport};
-ghost use Rattle.frame_writer.specs.Parts.{requestOf, bytesWritten};
+ghost use mathlib.Core.List.{_++_};
+ghost use lib.ListN.{length, drop};
+ghost use Rattle.rules.specs.Frame.{requestHeader, isWritable, frameBytes, writeOf, writeOut, writeReport};
+ghost use Rattle.frame_writer.specs.Parts.{bytesWritten};
 
 // Whether a frame has operation 1 or 2 and hardware addresses of 48 bits.
 fn is_writable(frame: Frame) -> bool
@@ -23,7 +24,7 @@ fn is_writable(frame: Frame) -> bool
 
 // A request's bytes, with the frame's addresses.
 fn request(frame: Frame) -> [u8; 28]
-    ensures { λ r. ⌜ r ≡ requestOf frame ⌝ }
+    ensures { λ r. ⌜ r ≡ requestHeader ++ drop 8 (frameBytes frame) ⌝ }
 {
     let header = REQUEST;
     let sender_hardware = frame.sender.hardware.0;
