@@ -1,4 +1,4 @@
-// Reads frames captured from other makers' programs, one a line as 56 hex digits, and writes each again. For each it
+// Reads frames of captures made with other makers' programs, one a line as 56 hex digits, and writes each again. For each it
 // prints the operation, the sender's and the target's addresses, and whether the bytes written are the bytes read.
 use libc::STDIN_FILENO;
 use libc::STDOUT_FILENO;
@@ -8,6 +8,7 @@ use rules::ReadAnswer;
 use rules::WriteAnswer;
 ghost use Prim.Native.Nat.{_<_};
 
+// The value of a hex digit. The input is our own data: on any other byte it gives some digit.
 fn digit(c: u8) -> u8
     ensures { λ r. ⌜ r < 16 ⌝ }
 {

@@ -94,3 +94,6 @@ module _
     unfolding clockOf clockRefusal
     clock-widens h =
         rw (reported-step ∙ forward, held ∙ forward, le-ltb lastTime latest within, le-ltb lastTime (latest + d) h)
+
+-- Each way that `widen` ends.
+pub ruleset clock-ends = (clock-above, clock-back, clock-far, clock-widens)

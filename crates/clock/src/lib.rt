@@ -1,12 +1,10 @@
 // The board's clock: a 32-bit count of milliseconds that rolls over, widened to the time it stands for.
 use rules::ClockAnswer;
+use rules::LAST_TIME;
 use rules::Refusal;
 use rules::Time;
 ghost use mathlib.Core.Path.{_≡_};
 ghost use Rattle.rules.specs.Clock.{signed, clockOf, clockReport};
-
-// The largest time.
-const LAST: u64 = 281_474_976_710_655;
 
 // A wrapped difference as a signed step.
 fn signed_step(difference: u32) -> i32
@@ -23,7 +21,7 @@ fn signed_step(difference: u32) -> i32
 pub fn widen(latest: Time, reading: u32) -> ClockAnswer
     ensures { λ r. ⌜ clockReport r ≡ clockOf (latest .0) reading ⌝ }
 {
-    if LAST < latest.0 {
+    if LAST_TIME < latest.0 {
         ClockAnswer::Refused {
             refusal: Refusal::TimeAboveRange,
             step: 0,
@@ -38,7 +36,7 @@ pub fn widen(latest: Time, reading: u32) -> ClockAnswer
                 refusal: Refusal::TimeBelowLatest,
                 step,
             }
-        } else if LAST < time {
+        } else if LAST_TIME < time {
             ClockAnswer::Refused {
                 refusal: Refusal::TimeAboveRange,
                 step,

@@ -9,5 +9,5 @@ pub const REQUEST: [u8; 8] = *b"\x00\x01\x08\x00\x06\x04\x00\x01";
 pub fn is_known_operation(operation: u16) -> bool
     ensures { λ r. ⌜ r ≡ isKnownOperation operation ⌝ }
 {
-    1 <= operation && operation <= 2
+    operation == 1 || operation == 2
 }

@@ -76,3 +76,6 @@ module _ (bytes : List ℕ) where
     pub read-whole : known ≡ true → (f : Frame) → f ≡ frameOf bytes → accepted f ≡ readOf bytes
     unfolding readOf readRefusal
     read-whole k f p = rw (le-ltb (length bytes) 28 long, ← told, k) (ap accepted p)
+
+-- Each way that `read` ends.
+pub ruleset read-ends = (read-short, read-whole, read-foreign)

@@ -18,10 +18,6 @@ use Rattle.rules.proofs.AnswersLaws.{accepted-none, refused-leaves}
 use Rattle.rules.proofs.FrameLaws.{frame-length, write-accepted}
 use Rattle.frame_writer.specs.Parts.{bytesWritten}
 
-at-most : (answer : WriteAnswer) → bytesWritten answer ≤ 28
-at-most (Refused refusal) = omega arith
-at-most Written = omega arith
-
 module _ (f : Frame) where
   module _ (bytes : List ℕ) (told : bytes ≡ requestHeader ++ drop 8 (frameBytes f)) where
     pub image-request : f .operation ≡ 1 → bytes ≡ frameBytes f
@@ -59,7 +55,7 @@ module _ (f : Frame) where
     unfolding writeOf writeRefusal
     write-whole h w = rw (le-ltb room 28 h, ← told, w)
 
-  -- What an answer lets out leaves the out buffer as a write does, and has room there.
+  -- What an answer lets out leaves the out buffer as a write does, has room there, and is of the frame.
   answer-leaves : (answer : WriteAnswer) (out : List ℕ) → writeReport answer ≡ writeOf f (length out) →
       take (bytesWritten answer) (frameBytes f) ++ drop (bytesWritten answer) out ≡ writeOut f out
   unfolding writeOut writeOf framePut frameBytes
@@ -72,6 +68,10 @@ module _ (f : Frame) where
   answer-room (Refused refusal) room e = omega arith
   answer-room Written room e =
       let fits = write-accepted f room (accepted-none (writeRefusal f room) tt tt e) in omega arith
+
+  at-most : (answer : WriteAnswer) → bytesWritten answer ≤ 28
+  at-most (Refused refusal) = omega arith
+  at-most Written = omega arith
 
   module _ (answer : WriteAnswer) (n : ℕ) (count : n ≡ bytesWritten answer) (bytes : List ℕ) (image : bytes ≡ frameBytes f) where
     pub count-fits : n ≤ length bytes
@@ -88,3 +88,6 @@ module _ (f : Frame) where
           last ≡ writeOut f out
       write-leaves last e =
           e ∙ rw (← count-is, take-take n n bytes (le-refl n), count, image) (answer-leaves answer out told)
+
+-- Each way that `write_answer` ends.
+pub ruleset write-ends = (write-short, write-whole, write-foreign)

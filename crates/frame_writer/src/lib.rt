@@ -1,6 +1,7 @@
 // Writing an ARP frame of RFC 826, for Ethernet and IPv4: 28 bytes, most significant first.
 use frame::REQUEST;
 use rules::Frame;
+use rules::HARDWARE_END;
 use rules::Refusal;
 use rules::WriteAnswer;
 ghost use mathlib.Core.Path.{_≡_};
@@ -16,7 +17,7 @@ fn is_writable(frame: Frame) -> bool
     let sender = frame.sender.hardware.0;
     let target = frame.target.hardware.0;
     if frame::is_known_operation(frame.operation) {
-        sender < 281474976710656 && target < 281474976710656
+        sender < HARDWARE_END && target < HARDWARE_END
     } else {
         false
     }
@@ -100,7 +101,7 @@ fn bytes_written(answer: WriteAnswer) -> usize
     }
 }
 
-// Writes a frame to the first 28 bytes.
+// Writes a frame to the first 28 bytes: as many of its bytes as the answer lets out, all or none.
 pub fn write(frame: Frame, out: &mut [u8]) -> WriteAnswer
     ensures { λ r. ⌜ (writeReport r ≡ writeOf frame (length (now (out .entry)))) × (now (out .exit) ≡ writeOut frame (now (out .entry))) ⌝ }
 {

@@ -119,9 +119,9 @@ answer-tells (Answer.Refused r) (Answer.Refused s) e = ap Answer.Refused (number
 answer-tells (Answer.Refused r) (Answer.Accepted k s n) e = cc
 answer-tells (Answer.Accepted k s n) (Answer.Refused r) e = cc
 answer-tells (Answer.Accepted j s m) (Answer.Accepted k t n) e =
-    let said : _≡_ {A = Accepted} (record { kind = kindWord j; slot = slotOf s; next = timeOf m }) (record { kind = kindWord k; slot = slotOf t; next = timeOf n }) = cc in
+    let said : _≡_ {A = Accepted} (record { kind = j; slot = slotOf s; next = timeOf m }) (record { kind = k; slot = slotOf t; next = timeOf n }) = cc in
     λ i. Answer.Accepted
-    (word-tells j k (ap (λ (a : Accepted). a .kind) said) i)
+    (ap (λ (a : Accepted). a .kind) said i)
     (slot-tells s t (ap (λ (a : Accepted). a .slot) said) i)
     (moment-tells m n (ap (λ (a : Accepted). a .next) said) i)
 

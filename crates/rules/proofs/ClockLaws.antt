@@ -1,10 +1,10 @@
 -- The clock tells the true time.
-use Prim.Native.Nat.{ℕ, _+_, _-_, _%_, _^_, _≤_, _<_}
+use Prim.Native.Nat.{ℕ, suc, _+_, _-_, _%_, _^_, _≤_, _<_}
 use mathlib.Core.Path.{_≡_, refl, ap}
 use mathlib.Core.List.{List, [], _∷_, map}
 use mathlib.Core.Bool.{Bool, true, false}
 use native.Mathlib.Omega.{arith}
-use lib.IntN.{pos}
+use lib.IntN.{ℤ, pos, negsuc}
 use lib.Signed.{mag}
 use lib.Dec.{leb, ltb}
 use borrow.Author.Tests.{lt-ltb, le-ltb, le-leb, ltb-true, ltb-false}
@@ -60,6 +60,23 @@ pub step-lands : (latest reading : ℕ) → latest ≤ lastTime → reading < 2 
 unfolding clockStep
 step-lands latest reading h k =
     rw (le-leb latest lastTime h, signed-lands latest (wrapped latest reading) (omega arith)) (omega arith)
+
+-- No other number lies in the range and shows the reading.
+pub step-only : (latest reading : ℕ) → latest ≤ lastTime → (z : ℤ) → mag z < 2 ^ 31 →
+    readingAt (plus (latest + 2 ^ 32) z) ≡ reading → z ≡ clockStep latest reading
+unfolding clockStep
+step-only latest reading h (pos n) k e =
+    let forward : wrapped latest reading ≡ n = omega arith in
+    rw (le-leb latest lastTime h, forward, lt-ltb n signBit k)
+step-only latest reading h (negsuc n) k e =
+    let backward : wrapped latest reading ≡ 2 ^ 32 - suc n = omega arith in
+    rw (
+      le-leb latest lastTime h,
+      backward,
+      le-ltb (2 ^ 32 - suc n) signBit (omega arith),
+      lt-ltb (2 ^ 32 - suc n) (2 ^ 32) (omega arith),
+    )
+    (ap negsuc (omega arith))
 
 -- Readings of a true clock give the true times.
 pub true-clock : (before : ℕ) (times : List ℕ) → TrueTimes before times →

@@ -1,4 +1,4 @@
--- The laws of the frame, each over every frame.
+-- The laws of the frame.
 use Prim.Native.Nat.{ℕ, _+_, _≤_, _<_, _^_}
 use mathlib.Core.Path.{_≡_, refl, sym, ap, _∙_}
 use mathlib.Core.List.{List, [], _∷_, _++_}
@@ -10,9 +10,10 @@ use lib.Seq.{take-add}
 use lib.Pow.{areBytes}
 use lib.Dec.{ltb, eqb}
 use borrow.Author.Tests.{lt-ltb, ltb-true, ltb-false, le-ltb, eqb-true}
+use Rattle.rules.specs.Addresses.{isHardware}
 use Rattle.rules.specs.Bytes.{bytesOf, numberOf, numberAt, sameBytes}
 use Rattle.rules.specs.Answers.{accepted, _if_else_}
-use Rattle.rules.specs.Frame.{frameBytes, requestHeader, probe, announcement, isKnownOperation, frameOf, isKnownFrame, readRefusal, readOf, isHardware, isWritable, writeRefusal, framePut, writeOf, writeOut}
+use Rattle.rules.specs.Frame.{frameBytes, requestHeader, probe, announcement, isKnownOperation, frameOf, isKnownFrame, readRefusal, readOf, isWritable, writeRefusal, framePut, writeOf, writeOut}
 use Rattle.rules.proofs.BytesLaws.{and-both, number-bytes-fits, part-append, numberAt-lt, numberAt-bytes, same-equal}
 use Rattle.rules.specs.declared.Ipv4Address.{Ipv4Address}
 use Rattle.rules.specs.declared.HardwareAddress.{HardwareAddress}
@@ -68,7 +69,7 @@ neither n m true b e = (cc, cc)
 neither n m false true e = (refl, refl)
 neither n m false false e = (refl, cc)
 
--- An IPv4 address has 32 bits.
+-- An IPv4 address has 32 bits. Every `Ipv4Address` of a program does; in a definition a number may be any.
 abbrev pub Is32 : Ipv4Address → Type 0
 Is32 address = address .0 < 2 ^ 32
 
@@ -148,6 +149,11 @@ frame-reads f rest h hs ht =
     long : 28 ≤ length (frameBytes f ++ rest)
     long = rw (length-append (frameBytes f) rest, frame-length f) (omega arith)
 
+-- An accepted write keeps the rest of the out buffer.
+pub write-keeps-rest : (f : Frame) (out : List ℕ) → writeRefusal f (length out) ≡ none → drop 28 (writeOut f out) ≡ drop 28 out
+unfolding writeOut framePut frameBytes
+write-keeps-rest f out e = rw e
+
 -- What was written reads back to the same fields.
 pub written-reads-back : (f : Frame) (out : List ℕ) → Is32 (f .sender .ip) → Is32 (f .target .ip) →
     writeRefusal f (length out) ≡ none → readOf (writeOut f out) ≡ accepted f
@@ -185,6 +191,16 @@ module _ (bytes rest : List ℕ) (long : 28 ≤ length bytes) where
         le-ltb (length (bytes ++ rest)) 28 (rw length-append (omega arith)),
       )
 
+-- The first 28 bytes, cut where the fields begin.
+abbrev pieces : List ℕ → List ℕ
+pieces bytes =
+    take 6 bytes
+    ++ take 2 (drop 6 bytes)
+    ++ take 6 (drop 8 bytes)
+    ++ take 4 (drop 14 bytes)
+    ++ take 6 (drop 18 bytes)
+    ++ take 4 (drop 24 bytes)
+
 -- A list of at least 28 bytes that begin as ours do: what the fields read from it are made of.
 module _ (bytes : List ℕ) (small : areBytes bytes ≡ true) (long : 28 ≤ length bytes) (known : isKnownFrame bytes ≡ true) where
   known-parts : (sameBytes (take 6 bytes) (take 6 requestHeader) ≡ true) × (isKnownOperation (numberAt 6 2 bytes) ≡ true)
@@ -200,16 +216,15 @@ module _ (bytes : List ℕ) (small : areBytes bytes ≡ true) (long : 28 ≤ len
         lt-ltb (numberAt 18 6 bytes) (2 ^ 48) (numberAt-lt 6 18 bytes small (omega arith)),
       )
 
-  -- The 28 bytes, cut where the fields begin.
-  cut : take 6 bytes ++ take 2 (drop 6 bytes) ++ take 6 (drop 8 bytes) ++ take 4 (drop 14 bytes) ++ take 6 (drop 18 bytes) ++ take 4 (drop 24 bytes) ≡ take 28 bytes
+  cut : pieces bytes ≡ take 28 bytes
   cut = rw (← take-add 6 2 bytes, ← take-add 8 6 bytes, ← take-add 14 4 bytes, ← take-add 18 6 bytes, ← take-add 24 4 bytes)
 
   fields-bytes : frameBytes (frameOf bytes) ≡ take 28 bytes
   unfolding frameBytes frameOf
-  fields-bytes = pieces ∙ cut
+  fields-bytes = rebuilt ∙ cut
     where
-      pieces : frameBytes (frameOf bytes) ≡ take 6 bytes ++ take 2 (drop 6 bytes) ++ take 6 (drop 8 bytes) ++ take 4 (drop 14 bytes) ++ take 6 (drop 18 bytes) ++ take 4 (drop 24 bytes)
-      pieces =
+      rebuilt : frameBytes (frameOf bytes) ≡ pieces bytes
+      rebuilt =
           λ i. sym (same-equal (take 6 bytes) (take 6 requestHeader) (known-parts .0)) i
           ++ numberAt-bytes 2 6 bytes small (omega arith) i
           ++ numberAt-bytes 6 8 bytes small (omega arith) i

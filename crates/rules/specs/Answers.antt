@@ -31,7 +31,8 @@ refusalNumber TooManyRequests = 12
 refusalNumber SlotNotHeld = 13
 refusalNumber LineMalformed = 14
 
--- "The lowest number that applies is given, and none is given otherwise": `5 if a else 7 if b else none`.
+-- "The lowest number that applies is given, and none is given otherwise": `5 if a else 7 if b else none` is the first that
+-- applies, and its rows stand in rising order.
 infixr 20 _if_else_
 abbrev pub _if_else_ : ℕ → Bool → Option ℕ → Option ℕ
 n if true else rest = some n
@@ -52,7 +53,7 @@ abbrev pub leaves : {A : Type 0} → Option ℕ → A → A → A
 leaves none old new = new
 leaves (some n) old new = old
 
--- "Kinds: fresh, taken, none, probe, announce, defend, lost, kept, dropped", as their letters' codes.
+-- "Kinds: fresh, taken, none, probe, announce, defend, lost, kept, dropped", in this order, as their letters' codes.
 unfoldable pub kindWord : Kind → List ℕ
 kindWord Fresh = 102 ∷ 114 ∷ 101 ∷ 115 ∷ 104 ∷ []
 kindWord Taken = 116 ∷ 97 ∷ 107 ∷ 101 ∷ 110 ∷ []
@@ -75,7 +76,7 @@ timeOf (At time) = some (time .0)
 
 -- "Every accepted call reports a kind, the slot concerned or none, and the smallest deadline left or none."
 pub record Accepted : Type 0 where
-  pub kind : List ℕ
+  pub kind : Kind
   pub slot : Option ℕ
   pub next : Option ℕ
 
@@ -83,4 +84,4 @@ pub record Accepted : Type 0 where
 unfoldable pub answerReport : Answer → Report Accepted
 answerReport (Answer.Refused refusal) = refused (refusalNumber refusal)
 answerReport (Answer.Accepted kind slot next) =
-    accepted (record { kind = kindWord kind; slot = slotOf slot; next = timeOf next })
+    accepted (record { kind = kind; slot = slotOf slot; next = timeOf next })

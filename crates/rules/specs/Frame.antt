@@ -1,10 +1,11 @@
 -- Document 01, "The frame", and the calls Read and Write.
-use Prim.Native.Nat.{ℕ, _^_}
+use Prim.Native.Nat.{ℕ}
 use mathlib.Core.List.{List, [], _∷_, _++_}
 use mathlib.Core.Option.{Option, none}
 use mathlib.Core.Bool.{Bool, not, _&&_, _||_}
 use lib.ListN.{length, take, drop}
 use lib.Dec.{eqb, ltb}
+use Rattle.rules.specs.Addresses.{isHardware}
 use Rattle.rules.specs.Bytes.{bytesOf, numberAt, sameBytes}
 use Rattle.rules.specs.Answers.{refusalNumber, _if_else_, Report, refused, accepted, reported, leaves}
 use Rattle.rules.specs.declared.Ipv4Address.{Ipv4Address}
@@ -75,10 +76,6 @@ readRefusal bytes = 6 if ltb (length bytes) 28 else 7 if not (isKnownFrame bytes
 -- Read, for any bytes.
 unfoldable pub readOf : List ℕ → Report Frame
 readOf bytes = reported (readRefusal bytes) (frameOf bytes)
-
--- Whether a number is a hardware address, which has 48 bits.
-abbrev pub isHardware : HardwareAddress → Bool
-isHardware address = ltb (address .0) (2 ^ 48)
 
 -- Whether a frame can be written: operation 1 or 2, and two hardware addresses of 48 bits.
 unfoldable pub isWritable : Frame → Bool

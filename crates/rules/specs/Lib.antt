@@ -1,5 +1,6 @@
 -- Document 01 as definitions.
 pub mod Times
+pub mod Addresses
 pub mod Bytes
 pub mod Answers
 pub mod Frame

@@ -4,11 +4,16 @@
 // An IPv4 address, its first byte the most significant.
 pub struct Ipv4Address(pub u32);
 
-// A time in whole milliseconds. Times run from 0 to 2^48 - 1; a larger number is refused, but a deadline may be larger.
+// A time in whole milliseconds. A larger number than the last time is refused, but a deadline may be larger.
 pub struct Time(pub u64);
+
+pub const LAST_TIME: u64 = 281_474_976_710_655;
 
 // A hardware address: 48 bits, its first byte the most significant. A larger number stands for no address and is refused.
 pub struct HardwareAddress(pub u64);
+
+// The first number above them: 2^48.
+pub const HARDWARE_END: u64 = 281_474_976_710_656;
 
 // One of an ARP packet's two pairs of addresses.
 pub struct Host {

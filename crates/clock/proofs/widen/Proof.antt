@@ -1,6 +1,6 @@
 -- `clock::widen`: above the range, backward, out of the range, the new time.
 use borrow.Author.Needs.{needs}
-use Rattle.clock.proofs.Laws.{clock-above, clock-back, clock-far, clock-widens}
+use Rattle.clock.proofs.Laws.{clock-ends}
 use Rattle.clock.proofs.widen.Statement.{statement}
 use Rattle.clock.proofs.widen.Tie as tie
 
@@ -20,16 +20,16 @@ add-time : tie.Need-add-time
 add-time c = search needs
 
 returns : tie.Need-returns
-returns c = search clock-above
+returns c = search clock-ends
 
 returns-2 : tie.Need-returns-2
-returns-2 c = search clock-back
+returns-2 c = search clock-ends
 
 returns-3 : tie.Need-returns-3
-returns-3 c = search clock-far
+returns-3 c = search clock-ends
 
 returns-4 : tie.Need-returns-4
-returns-4 c = search clock-widens
+returns-4 c = search clock-ends
 
 pub widen-spec : {M : Type 1} → statement M
 widen-spec =

@@ -1,6 +1,6 @@
 -- `frame_reader::read`: refusal 6, the frame, refusal 7.
 use borrow.Author.Needs.{needs}
-use Rattle.frame_reader.proofs.Laws.{read-short, read-whole, read-foreign}
+use Rattle.frame_reader.proofs.Laws.{read-ends}
 use Rattle.frame_reader.proofs.read.Statement.{statement}
 use Rattle.frame_reader.proofs.read.Tie as tie
 
@@ -11,13 +11,13 @@ fields-requires : tie.Need-fields-requires
 fields-requires c κs = search needs
 
 returns : tie.Need-returns
-returns c = search read-short
+returns c = search read-ends
 
 returns-2 : tie.Need-returns-2
-returns-2 c = search read-whole
+returns-2 c = search read-ends
 
 returns-3 : tie.Need-returns-3
-returns-3 c = search read-foreign
+returns-3 c = search read-ends
 
 pub read-spec : {M : Type 1} → statement M
 read-spec = tie.close (tie.spec is-known-frame-requires fields-requires returns returns-2 returns-3)
