@@ -1,27 +1,20 @@
 -- How the machine's steps make up the definitions of the crate rules: a law for each way that a function ends.
 use Prim.Native.Nat.{ℕ, zero, suc, _+_, _-_, _%_, _^_, _≤_, _<_, zero-le}
 use mathlib.Core.Path.{_≡_, refl, sym, ap, _∙_}
-use mathlib.Core.Bool.{Bool, true, false, true≢false}
+use mathlib.Core.Bool.{true, false, true≢false}
+use mathlib.Core.Logic.{⊎-elim}
 use native.Mathlib.Nat.{zero-add}
 use native.Mathlib.Omega.{arith}
 use lib.IntN.{ℤ, pos, negsuc, _-ℤ_}
 use lib.Signed.{mag, ltZ}
-use lib.Dec.{ltb}
 use mir.Syntax.{w32}
 use mir.Val.{SFits, ofZ, toZ}
 use mir.Facts.{toZ-pos, toZ-ofZ}
-use borrow.Author.Tests.{lt-ltb, le-ltb, le-leb, lt-leb, ltb-true, ltb-false}
+use borrow.Author.Tests.{lt-ltb, le-ltb, le-leb, lt-leb}
+use Rattle.rules.proofs.ClockLaws.{signed-forward, signed-backward, signed-cases}
 use Rattle.rules.specs.Times.{lastTime}
 use Rattle.rules.specs.Answers.{refused, accepted}
 use Rattle.rules.specs.Clock.{wrapped, signed, isNegative, clockStep, clockRefusal, clockOf}
-
--- A difference below 2^31 is itself, any other is less than none.
-signed-forward : (d : ℕ) → d < 2 ^ 31 → signed d ≡ pos d
-signed-forward d h = rw (lt-ltb d (2 ^ 31) h)
-
-signed-backward : (d : ℕ) → 2 ^ 31 ≤ d → d < 2 ^ 32 → signed d ≡ negsuc (4294967295 - d)
-signed-backward d h k =
-    rw (le-ltb d (2 ^ 31) h, lt-ltb d (2 ^ 32) k) (ap negsuc (omega arith))
 
 less-one : (n : ℕ) → negsuc 0 -ℤ pos n ≡ negsuc n
 less-one zero = refl
@@ -38,7 +31,8 @@ pub backward-fits : (d : ℕ) → 2 ^ 31 ≤ d → SFits w32 (negsuc 0 -ℤ toZ 
 backward-fits d h = rw (backward d h) (record { sfits = omega arith })
 
 pub step-backward : (d : ℕ) → 2 ^ 31 ≤ d → d < 2 ^ 32 → toZ w32 (ofZ w32 (negsuc 0 -ℤ toZ w32 (4294967295 - d))) ≡ signed d
-step-backward d h k = toZ-ofZ (backward-fits d h) ∙ backward d h ∙ sym (signed-backward d h k)
+step-backward d h k =
+    toZ-ofZ (backward-fits d h) ∙ backward d h ∙ ap negsuc (omega arith) ∙ sym (signed-backward d h k)
 
 -- The sign, by the machine's test.
 sign : (z : ℤ) → ltZ z (pos 0) ≡ isNegative z
@@ -76,13 +70,11 @@ module _
 
   module _ (onward : ltZ (toZ w32 (ofZ w32 step)) (pos 0) ≡ false) where
     forward : step ≡ pos d
-    forward = go (ltb d (2 ^ 31)) refl
-      where
-        go : (b : Bool) → ltb d (2 ^ 31) ≡ b → step ≡ pos d
-        go true e = told ∙ signed-forward d (ltb-true d (2 ^ 31) e)
-        go false e =
-            let back = told ∙ signed-backward d (ltb-false d (2 ^ 31) e) small in
-            absurd (true≢false (sym (ap isNegative back) ∙ sym (sign step) ∙ rw held at onward))
+    forward =
+        ⊎-elim
+        (λ w. told ∙ w .1)
+        (λ w. absurd (true≢false (sym (ap isNegative (told ∙ w .1)) ∙ sym (sign step) ∙ rw held at onward)))
+        (signed-cases d small)
 
     pub clock-far : lastTime < latest + d → record { step = toZ w32 (ofZ w32 step); time = refused 3 } ≡ clockOf latest reading
     unfolding clockOf clockRefusal

@@ -13,6 +13,7 @@ ghost use lib.ListN.{length};
 ghost use Rattle.rules.specs.Bytes.{numberOf};
 ghost use Rattle.rules.specs.Frame.{isKnownFrame, frameOf, readOf, readReport};
 
+// The number that bytes stand for: two, four or six of them.
 fn number2(a: u8, b: u8) -> u16
     ensures { λ r. ⌜ r ≡ numberOf (a ∷ b ∷ []) ⌝ }
 {

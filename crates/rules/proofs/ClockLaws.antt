@@ -3,6 +3,7 @@ use Prim.Native.Nat.{ℕ, suc, _+_, _-_, _%_, _^_, _≤_, _<_}
 use mathlib.Core.Path.{_≡_, refl, ap}
 use mathlib.Core.List.{List, [], _∷_, map}
 use mathlib.Core.Bool.{Bool, true, false}
+use mathlib.Core.Logic.{_⊎_, inl, inr, ⊎-elim}
 use native.Mathlib.Omega.{arith}
 use lib.IntN.{ℤ, pos, negsuc}
 use lib.Signed.{mag}
@@ -11,6 +12,22 @@ use borrow.Author.Tests.{lt-ltb, le-ltb, le-leb, ltb-true, ltb-false}
 use Rattle.rules.specs.Times.{lastTime}
 use Rattle.rules.specs.Answers.{Report, accepted}
 use Rattle.rules.specs.Clock.{wrapped, signBit, signed, plus, clockStep, clockRefusal, clockOf, widenedTimes, TrueTimes, readingAt}
+
+-- A signed number, by whether the sign bit is set.
+pub signed-forward : (d : ℕ) → d < signBit → signed d ≡ pos d
+signed-forward d h = rw (lt-ltb d signBit h)
+
+pub signed-backward : (d : ℕ) → signBit ≤ d → d < 2 ^ 32 → signed d ≡ negsuc (2 ^ 32 - suc d)
+signed-backward d h k = rw (le-ltb d signBit h, lt-ltb d (2 ^ 32) k)
+
+pub signed-cases : (d : ℕ) → d < 2 ^ 32 →
+    ((d < signBit) × (signed d ≡ pos d)) ⊎ ((signBit ≤ d) × (signed d ≡ negsuc (2 ^ 32 - suc d)))
+signed-cases d h = go (ltb d signBit) refl
+  where
+    go : (b : Bool) → ltb d signBit ≡ b →
+        ((d < signBit) × (signed d ≡ pos d)) ⊎ ((signBit ≤ d) × (signed d ≡ negsuc (2 ^ 32 - suc d)))
+    go true e = let low = ltb-true d signBit e in inl (low, signed-forward d low)
+    go false e = let high = ltb-false d signBit e in inr (high, signed-backward d high h)
 
 -- The wrapped difference of two true times not too far apart is their difference.
 wrapped-true : (before now : ℕ) → before ≤ now → now ≤ before + 2_147_483_647 → wrapped before (readingAt now) ≡ now - before
@@ -21,7 +38,7 @@ module _ (before now : ℕ) (h : before ≤ now) (k : now ≤ before + 2_147_483
   true-step : clockStep before (readingAt now) ≡ pos (now - before)
   unfolding clockStep
   true-step =
-      rw (le-leb before lastTime (omega arith), wrapped-true before now h k, lt-ltb (now - before) signBit (omega arith))
+      rw (le-leb before lastTime (omega arith), wrapped-true before now h k, signed-forward (now - before) (omega arith))
 
   true-sum : before + (now - before) ≡ now
   true-sum = omega arith
@@ -33,11 +50,7 @@ module _ (before now : ℕ) (h : before ≤ now) (k : now ≤ before + 2_147_483
 
 -- The step lies from -2,147,483,648 to 2,147,483,647: `mag` of n and of -(n + 1) is n.
 signed-range : (d : ℕ) → d < 2 ^ 32 → mag (signed d) < 2 ^ 31
-signed-range d h = go (ltb d signBit) refl
-  where
-    go : (b : Bool) → ltb d signBit ≡ b → mag (signed d) < 2 ^ 31
-    go true e = let low = ltb-true d signBit e in rw e (omega arith)
-    go false e = let high = ltb-false d signBit e in rw (e, lt-ltb d (2 ^ 32) h) (omega arith)
+signed-range d h = ⊎-elim (λ w. rw (w .1) (omega arith)) (λ w. rw (w .1) (omega arith)) (signed-cases d h)
 
 pub step-range : (latest reading : ℕ) → mag (clockStep latest reading) < 2 ^ 31
 unfolding clockStep
@@ -49,11 +62,7 @@ step-range latest reading = go (leb latest lastTime) refl
 
 -- The latest time and the step together show the reading, whatever rolled over.
 signed-lands : (latest d : ℕ) → d < 2 ^ 32 → plus (latest + 2 ^ 32) (signed d) % 2 ^ 32 ≡ (latest + d) % 2 ^ 32
-signed-lands latest d h = go (ltb d signBit) refl
-  where
-    go : (b : Bool) → ltb d signBit ≡ b → plus (latest + 2 ^ 32) (signed d) % 2 ^ 32 ≡ (latest + d) % 2 ^ 32
-    go true e = rw e (omega arith)
-    go false e = rw (e, lt-ltb d (2 ^ 32) h) (omega arith)
+signed-lands latest d h = ⊎-elim (λ w. rw (w .1) (omega arith)) (λ w. rw (w .1) (omega arith)) (signed-cases d h)
 
 pub step-lands : (latest reading : ℕ) → latest ≤ lastTime → reading < 2 ^ 32 →
     readingAt (plus (latest + 2 ^ 32) (clockStep latest reading)) ≡ reading
@@ -67,16 +76,10 @@ pub step-only : (latest reading : ℕ) → latest ≤ lastTime → (z : ℤ) →
 unfolding clockStep
 step-only latest reading h (pos n) k e =
     let forward : wrapped latest reading ≡ n = omega arith in
-    rw (le-leb latest lastTime h, forward, lt-ltb n signBit k)
+    rw (le-leb latest lastTime h, forward, signed-forward n (omega arith))
 step-only latest reading h (negsuc n) k e =
     let backward : wrapped latest reading ≡ 2 ^ 32 - suc n = omega arith in
-    rw (
-      le-leb latest lastTime h,
-      backward,
-      le-ltb (2 ^ 32 - suc n) signBit (omega arith),
-      lt-ltb (2 ^ 32 - suc n) (2 ^ 32) (omega arith),
-    )
-    (ap negsuc (omega arith))
+    rw (le-leb latest lastTime h, backward, signed-backward (2 ^ 32 - suc n) (omega arith) (omega arith)) (ap negsuc (omega arith))
 
 -- Readings of a true clock give the true times.
 pub true-clock : (before : ℕ) (times : List ℕ) → TrueTimes before times →

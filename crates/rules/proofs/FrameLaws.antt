@@ -109,7 +109,7 @@ write-passes : (f : Frame) (room : ℕ) → 28 ≤ room → isWritable f ≡ tru
 unfolding writeRefusal
 write-passes f room h w = rw (le-ltb room 28 h, w)
 
-pub read-accepted : (bytes : List ℕ) → readRefusal bytes ≡ none → (28 ≤ length bytes) × (isKnownFrame bytes ≡ true)
+read-accepted : (bytes : List ℕ) → readRefusal bytes ≡ none → (28 ≤ length bytes) × (isKnownFrame bytes ≡ true)
 unfolding readRefusal
 read-accepted bytes e =
     let facts = neither 6 7 (ltb (length bytes) 28) (isKnownFrame bytes) e in

@@ -1,4 +1,4 @@
--- Addresses.
+-- Which numbers stand for an address.
 use Prim.Native.Nat.{_^_}
 use mathlib.Core.Bool.{Bool}
 use lib.Dec.{ltb}
