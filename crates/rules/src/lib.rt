@@ -9,6 +9,25 @@ pub struct Time(pub u64);
 
 pub const LAST_TIME: u64 = 281_474_976_710_655;
 
+// Section 1.1 of RFC 5227, in ms where they are times.
+pub const PROBE_WAIT: u64 = 1_000;
+
+pub const PROBE_NUM: u8 = 3;
+
+pub const PROBE_MIN: u64 = 1_000;
+
+pub const PROBE_MAX: u64 = 2_000;
+
+pub const ANNOUNCE_WAIT: u64 = 2_000;
+
+pub const ANNOUNCE_INTERVAL: u64 = 2_000;
+
+pub const MAX_CONFLICTS: u8 = 10;
+
+pub const RATE_LIMIT_INTERVAL: u64 = 60_000;
+
+pub const DEFEND_INTERVAL: u64 = 10_000;
+
 // A hardware address: 48 bits, its first byte the most significant. A larger number stands for no address and is refused.
 pub struct HardwareAddress(pub u64);
 
@@ -68,6 +87,13 @@ pub struct Interface {
     pub records: [Record; 4],
 }
 
+// What a conflict calls for: the address is given up, defended by a frame, or kept without one.
+pub enum Response {
+    Lose,
+    Defend,
+    Keep,
+}
+
 // Why a call is refused, in the order of document 01's numbers, 1 to 14.
 pub enum Refusal {
     StateNotSound,
@@ -107,6 +133,12 @@ pub enum Answer {
         slot: SlotNumber,
         next: Moment,
     },
+}
+
+// What fresh, ask, tick, packet and drop hand back: the answer and the state, after a refusal the one handed in.
+pub struct Called {
+    pub answer: Answer,
+    pub state: Interface,
 }
 
 // The answer of read.

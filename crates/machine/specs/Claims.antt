@@ -1,0 +1,222 @@
+-- Document 01, "The histories of demand 3": the words of demand 3, "read from the accepted calls, their arguments and answers,
+-- never from the records". Nothing here takes a state.
+use Prim.Native.Nat.{ℕ, _+_}
+use mathlib.Core.Bool.{Bool, true, false, cond, not, _&&_, _||_}
+use mathlib.Core.List.{List, [], _∷_, map}
+use mathlib.Core.Option.{Option, none, some}
+use lib.Dec.{leb, eqb}
+use lib.ListN.{length}
+use Rattle.rules.specs.Answers.{Report, refused, accepted, Accepted}
+use Rattle.rules.specs.Frame.{frameOf}
+use Rattle.rules.specs.declared.Ipv4Address.{Ipv4Address}
+use Rattle.rules.specs.declared.HardwareAddress.{HardwareAddress}
+use Rattle.rules.specs.declared.Time.{Time}
+use Rattle.rules.specs.declared.Moment.{Moment}
+use Rattle.rules.specs.declared.Moment.the-variants.{Never, At}
+use Rattle.rules.specs.declared.Frame.{Frame}
+use Rattle.rules.specs.declared.Kind.{Kind}
+use Rattle.rules.specs.declared.Kind.the-variants.{Fresh, Taken, Nothing, Probe, Announce, Defend, Lost, Kept, Dropped}
+use Rattle.machine.specs.Timing.{rfc5227, isWithin}
+use Rattle.machine.specs.Interface.{isOurs}
+use Rattle.machine.specs.Calls.{Call, fresh, ask, tick, packet, drop}
+
+-- What is seen of a call: its arguments, its answer, and its out buffer afterwards.
+pub record Event : Type 0 where
+  pub call : Call
+  pub report : Report Accepted
+  pub out : List ℕ
+
+-- What befalls a claim, and when.
+pub data Mark : Type 0 where
+  probed : Time → Mark
+  announced : Time → Mark
+  defended : Time → Mark
+  disputed : Time → Mark
+  dropped : Time → Mark
+
+-- "An ask opens a claim on its address, with its policy, in the slot that it reports." Its marks, the latest first.
+pub record Claim : Type 0 where
+  pub address : Ipv4Address
+  pub policy : ℕ
+  pub slot : Option ℕ
+  pub marks : List Mark
+
+-- "From its first announcement a claim is in use."
+unfoldable pub isInUse : List Mark → Bool
+isInUse [] = false
+isInUse (probed t ∷ earlier) = isInUse earlier
+isInUse (announced t ∷ earlier) = true
+isInUse (defended t ∷ earlier) = isInUse earlier
+isInUse (disputed t ∷ earlier) = isInUse earlier
+isInUse (dropped t ∷ earlier) = isInUse earlier
+
+-- "This claim's previous conflict."
+unfoldable pub lastConflict : List Mark → Moment
+lastConflict [] = Never
+lastConflict (probed t ∷ earlier) = lastConflict earlier
+lastConflict (announced t ∷ earlier) = lastConflict earlier
+lastConflict (defended t ∷ earlier) = lastConflict earlier
+lastConflict (disputed t ∷ earlier) = At t
+lastConflict (dropped t ∷ earlier) = lastConflict earlier
+
+-- "In use it ends it under policy 1, and under policy 2 if this claim's previous conflict was less than 10,000 ms earlier:
+-- that is a surrender."
+abbrev pub isSurrender : ℕ → List Mark → Time → Bool
+isSurrender policy earlier t =
+    isInUse earlier && (eqb policy 1 || (eqb policy 2 && isWithin (rfc5227 .defendInterval) t (lastConflict earlier)))
+
+-- "A conflict before use ends the claim." "A drop of its slot ends an open claim."
+unfoldable pub isOpenAfter : ℕ → List Mark → Bool
+isOpenAfter policy [] = true
+isOpenAfter policy (probed t ∷ earlier) = isOpenAfter policy earlier
+isOpenAfter policy (announced t ∷ earlier) = isOpenAfter policy earlier
+isOpenAfter policy (defended t ∷ earlier) = isOpenAfter policy earlier
+isOpenAfter policy (disputed t ∷ earlier) =
+    isOpenAfter policy earlier && isInUse earlier && not (isSurrender policy earlier t)
+isOpenAfter policy (dropped t ∷ earlier) = false
+
+abbrev pub isOpen : Claim → Bool
+isOpen c = isOpenAfter (c .policy) (c .marks)
+
+-- "A packet is a conflict with a claim still open if its sender IP is the claim's address, and the claim isn't in use or the
+-- sender hardware isn't ours; or if the claim isn't in use and the packet has operation 1, sender IP zero, the claim's address
+-- as target IP, and sender hardware not ours."
+unfoldable pub isConflictWith : HardwareAddress → Frame → Claim → Bool
+isConflictWith own f c =
+    (eqb (f .sender .ip .0) (c .address .0) && (not (isInUse (c .marks)) || not (isOurs own (f .sender .hardware))))
+    || (not (isInUse (c .marks))
+    && eqb (f .operation) 1
+    && eqb (f .sender .ip .0) 0
+    && eqb (f .target .ip .0) (c .address .0)
+    && not (isOurs own (f .sender .hardware)))
+
+-- A claim with one more mark, and with the mark of a packet that is a conflict with it, or of a drop of its slot.
+abbrev pub marked : Mark → Claim → Claim
+marked mark c = record { address = c .address; policy = c .policy; slot = c .slot; marks = mark ∷ c .marks }
+
+abbrev pub struck : HardwareAddress → Time → Frame → Claim → Claim
+struck own t f c = cond (isOpen c && isConflictWith own f c) (marked (disputed t) c) c
+
+abbrev pub isSlot : ℕ → Option ℕ → Bool
+isSlot slot none = false
+isSlot slot (some n) = eqb n slot
+
+abbrev pub released : Time → ℕ → Claim → Claim
+released t slot c = cond (isOpen c && isSlot slot (c .slot)) (marked (dropped t) c) c
+
+-- "Each belongs to the latest claim on its target IP": the claims, the latest first, with a mark of that one.
+abbrev pub isOn : Ipv4Address → Claim → Bool
+isOn address c = eqb (c .address .0) (address .0)
+
+unfoldable pub markedLatest : Ipv4Address → Mark → List Claim → List Claim
+markedLatest address mark [] = []
+markedLatest address mark (c ∷ earlier) = cond (isOn address c) (marked mark c ∷ earlier) (c ∷ markedLatest address mark earlier)
+
+-- "A tick's frame is sent at the tick's time: a probe if its sender IP is zero, else a claiming announcement."
+abbrev pub hasFrame : Kind → Bool
+hasFrame Fresh = false
+hasFrame Taken = false
+hasFrame Nothing = false
+hasFrame Probe = true
+hasFrame Announce = true
+hasFrame Defend = true
+hasFrame Lost = false
+hasFrame Kept = false
+hasFrame Dropped = false
+
+abbrev pub ticked : Time → Frame → Mark
+ticked t f = cond (eqb (f .sender .ip .0) 0) (probed t) (announced t)
+
+abbrev pub withTicked : Kind → Time → Frame → List Claim → List Claim
+withTicked kind t f claims = cond (hasFrame kind) (markedLatest (f .target .ip) (ticked t f) claims) claims
+
+-- "A packet's frame of kind defend is a defence, sent at the packet's time."
+abbrev pub isDefence : Kind → Bool
+isDefence Fresh = false
+isDefence Taken = false
+isDefence Nothing = false
+isDefence Probe = false
+isDefence Announce = false
+isDefence Defend = true
+isDefence Lost = false
+isDefence Kept = false
+isDefence Dropped = false
+
+abbrev pub withDefence : Kind → Time → Frame → List Claim → List Claim
+withDefence kind t f claims = cond (isDefence kind) (markedLatest (f .target .ip) (defended t) claims) claims
+
+-- The claims after an accepted call, and after a history, the latest first. An accepted fresh makes a new interface.
+unfoldable pub claimsAfter : HardwareAddress → Call → Accepted → List ℕ → List Claim → List Claim
+claimsAfter own (fresh hardware) answer out claims = []
+claimsAfter own (ask t address policy draw) answer out claims =
+    record { address = address; policy = policy; slot = answer .slot; marks = [] } ∷ claims
+claimsAfter own (tick t draw lent) answer out claims = withTicked (answer .kind) t (frameOf out) claims
+claimsAfter own (packet t bytes lent) answer out claims =
+    withDefence (answer .kind) t (frameOf out) (map (struck own t (frameOf bytes)) claims)
+claimsAfter own (drop t slot) answer out claims = map (released t slot) claims
+
+-- Refused calls count for nothing.
+abbrev pub claimsBy : HardwareAddress → Event → Report Accepted → List Claim → List Claim
+claimsBy own e (refused n) claims = claims
+claimsBy own e (accepted answer) claims = claimsAfter own (e .call) answer (e .out) claims
+
+unfoldable pub claimsOf : HardwareAddress → List Event → List Claim
+claimsOf own [] = []
+claimsOf own (e ∷ earlier) = claimsBy own e (e .report) (claimsOf own earlier)
+
+-- The latest claim on an address.
+unfoldable pub latestOn : Ipv4Address → List Claim → Option Claim
+latestOn address [] = none
+latestOn address (c ∷ earlier) = cond (isOn address c) (some c) (latestOn address earlier)
+
+-- The times of a claim's probes, of its claiming announcements, of its defences and of its conflicts, the latest first.
+unfoldable pub probes : List Mark → List ℕ
+probes [] = []
+probes (probed t ∷ earlier) = t .0 ∷ probes earlier
+probes (announced t ∷ earlier) = probes earlier
+probes (defended t ∷ earlier) = probes earlier
+probes (disputed t ∷ earlier) = probes earlier
+probes (dropped t ∷ earlier) = probes earlier
+
+unfoldable pub announcements : List Mark → List ℕ
+announcements [] = []
+announcements (probed t ∷ earlier) = announcements earlier
+announcements (announced t ∷ earlier) = t .0 ∷ announcements earlier
+announcements (defended t ∷ earlier) = announcements earlier
+announcements (disputed t ∷ earlier) = announcements earlier
+announcements (dropped t ∷ earlier) = announcements earlier
+
+unfoldable pub defences : List Mark → List ℕ
+defences [] = []
+defences (probed t ∷ earlier) = defences earlier
+defences (announced t ∷ earlier) = defences earlier
+defences (defended t ∷ earlier) = t .0 ∷ defences earlier
+defences (disputed t ∷ earlier) = defences earlier
+defences (dropped t ∷ earlier) = defences earlier
+
+unfoldable pub conflicts : List Mark → List ℕ
+conflicts [] = []
+conflicts (probed t ∷ earlier) = conflicts earlier
+conflicts (announced t ∷ earlier) = conflicts earlier
+conflicts (defended t ∷ earlier) = conflicts earlier
+conflicts (disputed t ∷ earlier) = t .0 ∷ conflicts earlier
+conflicts (dropped t ∷ earlier) = conflicts earlier
+
+-- "The tenth conflict is counted over all claims": the conflicts of all claims, and the times of the asks that were accepted
+-- after the tenth, the latest first.
+unfoldable pub conflictCount : List Claim → ℕ
+conflictCount [] = 0
+conflictCount (c ∷ earlier) = length (conflicts (c .marks)) + conflictCount earlier
+
+abbrev pub asksBy : Call → Report Accepted → List Claim → List ℕ → List ℕ
+asksBy call (refused n) claims asks = asks
+asksBy (fresh hardware) (accepted answer) claims asks = []
+asksBy (ask t address policy draw) (accepted answer) claims asks =
+    cond (leb (rfc5227 .maxConflicts) (conflictCount claims)) (t .0 ∷ asks) asks
+asksBy (tick t draw lent) (accepted answer) claims asks = asks
+asksBy (packet t bytes lent) (accepted answer) claims asks = asks
+asksBy (drop t slot) (accepted answer) claims asks = asks
+
+unfoldable pub asksAfterTenth : HardwareAddress → List Event → List ℕ
+asksAfterTenth own [] = []
+asksAfterTenth own (e ∷ earlier) = asksBy (e .call) (e .report) (claimsOf own earlier) (asksAfterTenth own earlier)
