@@ -132,6 +132,12 @@ frame-fields f rest w hs ht =
       };
     }
 
+-- A frame that was handed out reads back.
+pub handed-out-reads : (f : Frame) (out : List ℕ) → isWritable f ≡ true → Is32 (f .sender .ip) → Is32 (f .target .ip) →
+    frameOf (framePut f out) ≡ f
+unfolding framePut
+handed-out-reads f out h hs ht = frame-fields f (drop 28 out) (writable f h) hs ht
+
 -- A frame that was written reads as ours.
 frame-is-known : (f : Frame) (rest : List ℕ) → isKnownOperation (f .operation) ≡ true → isKnownFrame (frameBytes f ++ rest) ≡ true
 unfolding isKnownFrame frameBytes
