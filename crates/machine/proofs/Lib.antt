@@ -5,3 +5,7 @@ pub mod ClaimLaws
 pub mod Stories
 pub mod Links
 pub mod Acceptance
+pub mod Invariant
+pub mod Changes
+pub mod AskStep
+pub mod DropStep

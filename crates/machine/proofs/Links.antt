@@ -27,6 +27,7 @@ Story policy (Announced deadline conflict) marks = InUse policy conflict 1 marks
 Story policy (Settled conflict) marks = InUse policy conflict 2 marks
 
 pub record Agrees (slot : ℕ) (r : Record) (c : Claim) : Type 0 where
+  pub sameAddress : c .address .0 ≡ r .address .0
   pub sameSlot : c .slot ≡ some slot
   pub samePolicy : c .policy ≡ r .policy
   pub story : Story (r .policy) (r .stage) (c .marks)

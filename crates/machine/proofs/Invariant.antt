@@ -1,0 +1,140 @@
+-- What links the state to what was seen, after every history.
+use Prim.Native.Nat.{ℕ, suc, _+_, _<_, _≤_, min}
+use mathlib.Core.Path.{_≡_, refl, sym, ap, _∙_, subst}
+use mathlib.Core.Bool.{Bool, true, false, not, cond, _&&_, true≢false, false≢true}
+use mathlib.Core.List.{List, [], _∷_, map}
+use mathlib.Core.Logic.{_⊎_, inl, inr}
+use native.Mathlib.Omega.{arith}
+use lib.Dec.{eqb}
+use lib.ListN.{length, set}
+use borrow.Author.Tests.{eqb-true, eqb-false, eq-eqb, ne-eqb}
+use Rattle.rules.specs.Answers.{accepted}
+use Rattle.rules.specs.declared.Ipv4Address.{Ipv4Address}
+use Rattle.rules.specs.declared.HardwareAddress.{HardwareAddress}
+use Rattle.rules.specs.declared.Moment.{Moment}
+use Rattle.rules.specs.declared.Moment.the-variants.{Never, At}
+use Rattle.rules.specs.declared.Stage.{Stage}
+use Rattle.rules.specs.declared.Stage.the-variants.{Free, Probing, Announced, Settled}
+use Rattle.rules.specs.declared.Record.{Record}
+use Rattle.rules.specs.declared.Interface.{Interface}
+use Rattle.rules.proofs.BytesLaws.{and-both}
+use Rattle.machine.specs.Timing.{rfc5227}
+use Rattle.machine.specs.Slots.{recordAt}
+use Rattle.machine.specs.Interface.{isFree, holds}
+use Rattle.machine.specs.Calls.{Call, Outcome}
+use Rattle.machine.specs.Machine.{lent, handedOut, acceptedAs}
+use Rattle.machine.specs.Claims.{claimsAfter, asksBy, Mark, Claim, isOpen, isOpenAfter, isInUse, conflicts, conflictCount, marked, markedLatest, isOn}
+use Rattle.machine.specs.Demand3.{Each, Spaced}
+use Rattle.machine.proofs.ClaimLaws.{on}
+use Rattle.machine.proofs.Stories.{untouched, Bounded, probing-bounded, in-use-bounded}
+use Rattle.machine.proofs.Links.{Story, Agrees, Closed, Away, Here, Link}
+
+-- Where there were asks after the tenth conflict, the count is at least 10, and the latest of them is the latest request.
+abbrev pub LastAsk : List ℕ → ℕ → Moment → Type 0
+LastAsk [] count request = Unit {0}
+LastAsk (t ∷ earlier) count Never = ⊥
+LastAsk (t ∷ earlier) count (At request) = (rfc5227 .maxConflicts ≤ count) × (t ≡ request .0)
+
+pub last-ask-counts : (asks : List ℕ) (request : Moment) (count more : ℕ) → count ≤ more → LastAsk asks count request →
+    LastAsk asks more request
+last-ask-counts [] request count more h last = tt
+last-ask-counts (t ∷ earlier) Never count more h last = last
+last-ask-counts (t ∷ earlier) (At request) count more h last = let ten = last .0 in (omega arith, last .1)
+
+pub record Linked (own : HardwareAddress) (s : Interface) (claims : List Claim) (asks : List ℕ) : Type 0 where
+  pub hardware : s .hardware ≡ own
+  pub links : (address : Ipv4Address) → Link address (s .records) (on address claims)
+  pub count : s .conflicts ≡ min (conflictCount claims) (rfc5227 .maxConflicts)
+  pub asksApart : Spaced (rfc5227 .rateLimitInterval) asks
+  pub lastAsk : LastAsk asks (conflictCount claims) (s .request)
+
+-- The link after an accepted call with this outcome.
+abbrev pub LinkedAfter : HardwareAddress → List Claim → List ℕ → Call → Outcome → Type 0
+LinkedAfter own claims asks call outcome =
+    Linked own (outcome .state)
+    (claimsAfter own call (acceptedAs outcome) (handedOut (outcome .frame) (lent call)) claims)
+    (asksBy call (accepted (acceptedAs outcome)) claims asks)
+
+-- Addresses of one number are one.
+pub same-address : (a b : Ipv4Address) → a .0 ≡ b .0 → a ≡ b
+same-address a b e i = record { 0 = e i }
+
+-- What holds of one address and of every other holds of each.
+pub by-address : (P : Ipv4Address → Type 0) (mine : Ipv4Address) → P mine → ((other : Ipv4Address) → (other .0 ≡ mine .0 → ⊥) → P other) →
+    (address : Ipv4Address) → P address
+by-address P mine here others address = go (eqb (address .0) (mine .0)) refl
+  where
+    go : (b : Bool) → eqb (address .0) (mine .0) ≡ b → P address
+    go true e = subst P (sym (same-address address mine (eqb-true (address .0) (mine .0) e))) here
+    go false e = others address (eqb-false (address .0) (mine .0) e)
+
+-- A record that is not free holds its own address and no other; a free one none.
+pub holds-own : (r : Record) → isFree r ≡ false → holds (r .address) r ≡ true
+holds-own r e = rw (e, eq-eqb (r .address .0) (r .address .0) refl)
+
+pub holds-no-other : (address : Ipv4Address) (r : Record) → (address .0 ≡ r .address .0 → ⊥) → holds address r ≡ false
+holds-no-other address r apart = rw (ne-eqb (r .address .0) (address .0) (λ e. apart (sym e))) (go (not (isFree r)))
+  where
+    go : (b : Bool) → (b && false) ≡ false
+    go true = refl
+    go false = refl
+
+pub held-address : (address : Ipv4Address) (r : Record) → holds address r ≡ true → (isFree r ≡ false) × (r .address .0 ≡ address .0)
+held-address address r e =
+    let w = and-both (not (isFree r)) (eqb (r .address .0) (address .0)) e in
+    (taken (isFree r) (w .0), eqb-true (r .address .0) (address .0) (w .1))
+  where
+    taken : (b : Bool) → not b ≡ true → b ≡ false
+    taken true e = absurd (false≢true e)
+    taken false e = refl
+
+-- An address that is in a slot: its claims, and that the link's slot is this one.
+pub linked-here : (address : Ipv4Address) (records : List Record) (claims : List Claim) (slot : ℕ) →
+    holds address (recordAt records slot) ≡ true → Link address records claims →
+    (here : Here address records claims) × (here .slot ≡ slot)
+linked-here address records claims slot e (inl away) = absurd (false≢true (sym (away .nowhere slot) ∙ e))
+linked-here address records claims slot e (inr here) = (here, sym (here .onlyHere slot e))
+
+pub linked-away : (address : Ipv4Address) (records : List Record) (claims : List Claim) →
+    ((slot : ℕ) → holds address (recordAt records slot) ≡ false) → Link address records claims → Away address records claims
+linked-away address records claims nowhere (inl away) = away
+linked-away address records claims nowhere (inr here) = absurd (false≢true (sym (nowhere (here .slot)) ∙ here .held))
+
+-- A story's claim is open, and its frames are few.
+story-open : (policy : ℕ) (stage : Stage) (marks : List Mark) → Story policy stage marks → isOpenAfter policy marks ≡ true
+story-open policy Free marks story = absurd story
+story-open policy (Probing sent deadline) marks story = untouched policy marks (story .only) .stillOpen
+story-open policy (Announced deadline conflict) marks story = story .stillOpen
+story-open policy (Settled conflict) marks story = story .stillOpen
+
+story-bounded : (policy : ℕ) (stage : Stage) (marks : List Mark) → Story policy stage marks → Bounded marks
+story-bounded policy Free marks story = absurd story
+story-bounded policy (Probing sent deadline) marks story = probing-bounded sent (deadline .0) marks story
+story-bounded policy (Announced deadline conflict) marks story = in-use-bounded policy conflict 1 marks (omega arith) story
+story-bounded policy (Settled conflict) marks story = in-use-bounded policy conflict 2 marks (omega arith) story
+
+module _ (slot : ℕ) (r : Record) (c : Claim) (agrees : Agrees slot r c) where
+  pub agrees-open : isOpen c ≡ true
+  agrees-open = rw (agrees .samePolicy) (story-open (r .policy) (r .stage) (c .marks) (agrees .story))
+
+  pub agrees-bounded : Bounded (c .marks)
+  agrees-bounded = story-bounded (r .policy) (r .stage) (c .marks) (agrees .story)
+
+-- A mark that is no conflict, and a change that makes none, leave the count.
+pub count-marked : (address : Ipv4Address) (mark : Mark) → ((marks : List Mark) → conflicts (mark ∷ marks) ≡ conflicts marks) →
+    (claims : List Claim) → conflictCount (markedLatest address mark claims) ≡ conflictCount claims
+unfolding conflictCount markedLatest
+count-marked address mark none [] = refl
+count-marked address mark none (c ∷ earlier) = go (isOn address c) (count-marked address mark none earlier)
+  where
+    go : (b : Bool) → conflictCount (markedLatest address mark earlier) ≡ conflictCount earlier →
+        conflictCount (cond b (marked mark c ∷ earlier) (c ∷ markedLatest address mark earlier))
+        ≡ length (conflicts (c .marks)) + conflictCount earlier
+    go true later = rw (none (c .marks))
+    go false later = rw later
+
+pub count-changed : (change : Claim → Claim) → ((c : Claim) → conflicts (change c .marks) ≡ conflicts (c .marks)) →
+    (claims : List Claim) → conflictCount (map change claims) ≡ conflictCount claims
+unfolding conflictCount
+count-changed change none [] = refl
+count-changed change none (c ∷ earlier) = rw (none c, count-changed change none earlier)
