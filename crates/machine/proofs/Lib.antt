@@ -9,3 +9,4 @@ pub mod Invariant
 pub mod Changes
 pub mod AskStep
 pub mod DropStep
+pub mod TickStep

@@ -1,0 +1,232 @@
+-- An accepted tick keeps the link: a frame of the due slot's claim is sent, or nothing is.
+use Prim.Native.Nat.{ℕ, suc, _+_, _<_, _≤_}
+use mathlib.Core.Path.{_≡_, refl, sym, ap, _∙_, subst}
+use mathlib.Core.Bool.{Bool, true, false, not, cond, _&&_, true≢false, false≢true}
+use mathlib.Core.List.{List, [], _∷_}
+use mathlib.Core.Option.{Option, none, some}
+use mathlib.Core.Logic.{_⊎_, inl, inr}
+use native.Mathlib.Omega.{arith}
+use lib.Dec.{leb, ltb, eqb}
+use lib.ListN.{length, set}
+use borrow.Author.Tests.{leb-true, ltb-true, ltb-false, eqb-true, eq-eqb, ne-eqb}
+use Rattle.rules.specs.Frame.{probe, announcement, frameOf, framePut}
+use Rattle.rules.specs.declared.Ipv4Address.{Ipv4Address}
+use Rattle.rules.specs.declared.HardwareAddress.{HardwareAddress}
+use Rattle.rules.specs.declared.Time.{Time}
+use Rattle.rules.specs.declared.Frame.{Frame}
+use Rattle.rules.specs.declared.Kind.{Kind}
+use Rattle.rules.specs.declared.Kind.the-variants.{Probe, Announce}
+use Rattle.rules.specs.declared.Moment.the-variants.{Never}
+use Rattle.rules.specs.declared.Stage.{Stage}
+use Rattle.rules.specs.declared.Stage.the-variants.{Free, Probing, Announced, Settled}
+use Rattle.rules.specs.declared.Record.{Record}
+use Rattle.rules.specs.declared.Interface.{Interface}
+use Rattle.machine.specs.Timing.{rfc5227, after}
+use Rattle.machine.specs.Slots.{recordAt, freeRecord, lowest}
+use Rattle.machine.specs.Interface.{isOwnHardware, isAllowed, isFreeStage, isFree}
+use Rattle.machine.specs.Deadlines.{deadlineOf, isDeadline, hasDeadline, smallestDeadline, dueAt, dueSlot}
+use Rattle.machine.specs.Calls.{tick, Service, serviceAt, service, delay, servedAs, serve, tickOutcome}
+use Rattle.machine.specs.Refusals.{tickRefusal}
+use Rattle.machine.specs.Claims.{Mark, Claim, probed, announced, hasFrame, ticked, marked, markedLatest, claimsAfter, conflicts, conflictCount}
+use Rattle.machine.proofs.SlotLaws.{none≢some, lowest-holds}
+use Rattle.machine.proofs.Acceptance.{Admitted, tick-accepted, sound, sound-at, allowed-number, probe-reads, announcement-reads}
+use Rattle.machine.proofs.ClaimLaws.{on, on-marked, on-marked-other}
+use Rattle.machine.proofs.Stories.{Probed, probe-sent, first-announced, second-announced}
+use Rattle.machine.proofs.Links.{Story, Agrees, Link, Here, link-elsewhere, link-goes-on}
+use Rattle.machine.proofs.Invariant.{Linked, LinkedAfter, by-address, holds-own, holds-no-other, linked-here, count-marked}
+
+-- A due slot has a deadline not later than the time.
+pub record Due (time : Time) (records : List Record) (slot : ℕ) : Type 0 where
+  pub deadline : ℕ
+  pub has : hasDeadline deadline (recordAt records slot) ≡ true
+  pub late : deadline ≤ time .0
+  pub room : slot < length records
+
+due-slot : (time : Time) (records : List Record) (slot : ℕ) (o : Option ℕ) → dueAt time records o ≡ some slot → Due time records slot
+due-slot time records slot none e = absurd (none≢some e)
+due-slot time records slot (some d) e = go (leb d (time .0)) refl e
+  where
+    go : (b : Bool) → leb d (time .0) ≡ b → cond b (lowest (hasDeadline d) records) none ≡ some slot → Due time records slot
+    go true late e =
+        let w = lowest-holds (hasDeadline d) records slot e in
+        record { deadline = d; has = w .0; late = leb-true d (time .0) late; room = w .1 }
+    go false late e = absurd (none≢some e)
+
+-- What serving a stage that is due sends and leaves.
+record Served (own : HardwareAddress) (address : Ipv4Address) (policy : ℕ) (t : Time) (marks : List Mark) (served : Service) : Type 0 where
+  frame : Frame
+  sends : served .frame ≡ some frame
+  counts : hasFrame (served .kind) ≡ true
+  target : frame .target .ip ≡ address
+  reads : (out : List ℕ) → frameOf (framePut frame out) ≡ frame
+  story : Story policy (served .stage) (ticked t frame ∷ marks)
+  taken : isFreeStage (served .stage) ≡ false
+
+module _ (own : HardwareAddress) (address : Ipv4Address) (policy : ℕ) (t : Time) (draw : ℕ) (marks : List Mark)
+    (owned : isOwnHardware own ≡ true) (allowed : isAllowed address ≡ true) where
+  announces : ticked t (announcement own address) ≡ announced t
+  unfolding announcement
+  announces = rw (ne-eqb (address .0) 0 (λ e. let h = allowed-number address allowed .0 in omega arith))
+
+  served-probe : (sent : ℕ) (deadline : Time) → deadline .0 ≤ t .0 → sent < rfc5227 .probeNum → Story policy (Probing sent deadline) marks →
+      Served own address policy t marks (record {
+          kind = Probe;
+          stage = Probing (suc sent) (after t (delay (suc sent) draw));
+          frame = some (probe own address);
+        })
+  unfolding probe
+  served-probe sent deadline late more story =
+      record {
+        frame = probe own address;
+        sends = refl;
+        counts = refl;
+        target = refl;
+        reads = probe-reads own address owned allowed;
+        story = probe-sent sent (deadline .0) draw t marks story more late;
+        taken = refl;
+      }
+
+  served-announcement : (kind : Kind) (stage : Stage) → hasFrame kind ≡ true → isFreeStage stage ≡ false → Story policy stage (announced t ∷ marks) →
+      Served own address policy t marks (record { kind = kind; stage = stage; frame = some (announcement own address) })
+  unfolding announcement
+  served-announcement kind stage counts taken story =
+      record {
+        frame = announcement own address;
+        sends = refl;
+        counts = counts;
+        target = refl;
+        reads = announcement-reads own address owned allowed;
+        story = rw announces story;
+        taken = taken;
+      }
+
+  served-stage : (stage : Stage) (deadline : ℕ) → isDeadline deadline (deadlineOf stage) ≡ true → deadline ≤ t .0 → Story policy stage marks →
+      Served own address policy t marks (serviceAt own address t draw stage)
+  served-stage Free deadline has late story = absurd (false≢true has)
+  served-stage (Probing sent d) deadline has late story = go (ltb sent (rfc5227 .probeNum)) refl
+    where
+      past : d .0 ≤ t .0
+      past = let same = eqb-true (d .0) deadline has in omega arith
+      go : (b : Bool) → ltb sent (rfc5227 .probeNum) ≡ b → Served own address policy t marks (serviceAt own address t draw (Probing sent d))
+      go true e = rw e (served-probe sent d past (ltb-true sent (rfc5227 .probeNum) e) story)
+      go false e =
+          let more = ltb-false sent (rfc5227 .probeNum) e in
+          let most = story .atMost in
+          let three : sent ≡ rfc5227 .probeNum = omega arith in
+          rw e (served-announcement Announce (Announced (after t (rfc5227 .announceInterval)) Never) refl refl
+            (first-announced policy (d .0) t marks (subst (λ (n : ℕ). Probed n (d .0) marks) three story) past))
+  served-stage (Announced d conflict) deadline has late story =
+      served-announcement Announce (Settled conflict) refl refl (second-announced policy conflict t marks story)
+  served-stage (Settled conflict) deadline has late story = absurd (false≢true has)
+
+module _ (own : HardwareAddress) (s : Interface) (claims : List Claim) (asks : List ℕ) (linked : Linked own s claims asks)
+    (time : Time) (draw : ℕ) (out : List ℕ) (admission : Admitted s time) where
+  -- Nothing is due.
+  tick-nothing : LinkedAfter own claims asks (tick time draw out) (serve s time draw none)
+  unfolding claimsAfter
+  tick-nothing =
+      record {
+        hardware = linked .hardware;
+        links = linked .links;
+        count = linked .count;
+        asksApart = linked .asksApart;
+        lastAsk = linked .lastAsk;
+      }
+
+  module _ (slot : ℕ) (due : Due time (s .records) slot) where
+    r : Record
+    r = recordAt (s .records) slot
+
+    served : Service
+    served = service (s .hardware) time draw r
+
+    new : Record
+    new = record { address = r .address; policy = r .policy; stage = served .stage }
+
+    -- A record with a deadline is not free.
+    held : isFree r ≡ false
+    unfolding r
+    held = go (recordAt (s .records) slot .stage) (due .has)
+      where
+        go : (stage : Stage) → isDeadline (due .deadline) (deadlineOf stage) ≡ true → isFreeStage stage ≡ false
+        go Free e = absurd (false≢true e)
+        go (Probing sent d) e = refl
+        go (Announced d conflict) e = refl
+        go (Settled conflict) e = refl
+
+    module _ (here : Here (r .address) (s .records) (on (r .address) claims)) (mine : here .slot ≡ slot) where
+      agreed : Agrees slot r (here .latest)
+      unfolding r
+      agreed = subst (λ (n : ℕ). Agrees n (recordAt (s .records) n) (here .latest)) mine (here .agrees)
+
+      serves : Served (s .hardware) (r .address) (r .policy) time (here .latest .marks) served
+      unfolding r served service
+      serves =
+          served-stage (s .hardware) (r .address) (r .policy) time draw (here .latest .marks)
+            (sound s (admission .sound) .own) (sound-at s slot (admission .sound) held .allowed)
+            (r .stage) (due .deadline) (due .has) (due .late) (agreed .story)
+
+      mark : Mark
+      mark = ticked time (serves .frame)
+
+      tick-here : Link (r .address) (set (s .records) slot new) (on (r .address) (markedLatest (r .address) mark claims))
+      unfolding new mark
+      tick-here =
+          rw (on-marked (r .address) mark claims, here .claimed)
+          (inr (link-goes-on (s .records) slot new (due .room) (r .address) (on (r .address) claims) here mine (marked mark (here .latest))
+            (holds-own new (serves .taken))
+            (record {
+                sameAddress = agreed .sameAddress;
+                sameSlot = agreed .sameSlot;
+                samePolicy = agreed .samePolicy;
+                story = serves .story;
+              })))
+
+      tick-elsewhere : (other : Ipv4Address) → (other .0 ≡ r .address .0 → ⊥) →
+          Link other (set (s .records) slot new) (on other (markedLatest (r .address) mark claims))
+      unfolding new r
+      tick-elsewhere other apart =
+          rw (on-marked-other other (r .address) (λ e. apart (sym e)) mark claims)
+          (link-elsewhere (s .records) slot new (due .room) other (on other claims)
+            (holds-no-other other r apart) (holds-no-other other new apart) (linked .links other))
+
+      mark-conflicts : (marks : List Mark) → conflicts (mark ∷ marks) ≡ conflicts marks
+      unfolding conflicts mark
+      mark-conflicts marks = go (eqb (serves .frame .sender .ip .0) 0)
+        where
+          go : (b : Bool) → conflicts (cond b (probed time) (announced time) ∷ marks) ≡ conflicts marks
+          go true = refl
+          go false = refl
+
+      tick-linked : LinkedAfter own claims asks (tick time draw out) (serve s time draw (some slot))
+      unfolding claimsAfter r served new mark
+      tick-linked =
+          let same = count-marked (r .address) mark mark-conflicts claims in
+          rw (serves .sends, serves .counts, serves .reads out, serves .target)
+          (record {
+              hardware = linked .hardware;
+              links = by-address
+                  (λ (a : Ipv4Address). Link a (set (s .records) slot new) (on a (markedLatest (r .address) mark claims)))
+                  (r .address) tick-here tick-elsewhere;
+              count = rw same (linked .count);
+              asksApart = linked .asksApart;
+              lastAsk = rw same (linked .lastAsk);
+            })
+
+pub tick-step : (own : HardwareAddress) (s : Interface) (claims : List Claim) (asks : List ℕ) → Linked own s claims asks →
+    (time : Time) (draw : ℕ) (out : List ℕ) → tickRefusal s time (length out) ≡ none →
+    LinkedAfter own claims asks (tick time draw out) (tickOutcome s time draw)
+unfolding tickOutcome dueSlot r
+tick-step own s claims asks linked time draw out e = go (dueSlot time (s .records)) refl
+  where
+    admission : Admitted s time
+    admission = tick-accepted s time (length out) e
+    go : (o : Option ℕ) → dueSlot time (s .records) ≡ o →
+        LinkedAfter own claims asks (tick time draw out) (serve s time draw o)
+    go none d = tick-nothing own s claims asks linked time draw out admission
+    go (some slot) d =
+        let due = due-slot time (s .records) slot (smallestDeadline (s .records)) d in
+        let address = recordAt (s .records) slot .address in
+        let w = linked-here address (s .records) (on address claims) slot
+          (holds-own (recordAt (s .records) slot) (held own s claims asks linked time draw out admission slot due)) (linked .links address) in
+        tick-linked own s claims asks linked time draw out admission slot due (w .0) (w .1)
