@@ -10,7 +10,7 @@ use Rattle.rules.specs.declared.Record.{Record}
 use Rattle.machine.specs.Slots.{recordAt}
 use Rattle.machine.specs.Claims.{Mark, Claim, isOpen, isOn, marked}
 use Rattle.machine.specs.Demand3.{Each}
-use Rattle.machine.proofs.ClaimLaws.{on, on-map, map-same}
+use Rattle.machine.proofs.ClaimLaws.{on, on-map, each-map, map-same}
 use Rattle.machine.proofs.Links.{Agrees, Closed, Away, Here, Link}
 use Rattle.machine.proofs.Invariant.{agrees-open}
 
@@ -41,11 +41,16 @@ module _ (test : Claim → Bool) (mark : Mark) where
       go false = refl
 
   -- The claims on an address that is not concerned.
-  pub unconcerned-same : (address : Ipv4Address) (records : List Record) (claims : List Claim) → Link address records claims →
-      ((here : Here address records claims) → test (here .latest) ≡ false) → map changed claims ≡ claims
-  unconcerned-same address records claims (inl away) spared = map-same Closed changed closed-same claims (away .allOver)
-  unconcerned-same address records claims (inr here) spared =
-      rw (here .claimed, spared-same (here .latest) (spared here), map-same Closed changed closed-same (here .older) (here .olderOver))
+  pub unconcerned-each : (address : Ipv4Address) (records : List Record) (claims : List Claim) → Link address records claims →
+      ((here : Here address records claims) → test (here .latest) ≡ false) → Each (λ c. changed c ≡ c) claims
+  unconcerned-each address records claims (inl away) spared =
+      each-map Closed (λ c. changed c ≡ c) closed-same claims (away .allOver)
+  unconcerned-each address records claims (inr here) spared =
+      rw (here .claimed)
+      (spared-same (here .latest) (spared here), each-map Closed (λ c. changed c ≡ c) closed-same (here .older) (here .olderOver))
+
+  pub same-each : (claims : List Claim) → Each (λ c. changed c ≡ c) claims → map changed claims ≡ claims
+  same-each claims all = map-same (λ c. changed c ≡ c) changed (λ c e. e) claims all
 
   -- The claims on one that is.
   pub concerned-marked : (address : Ipv4Address) (records : List Record) (claims : List Claim) (here : Here address records claims) →
@@ -55,5 +60,5 @@ module _ (test : Claim → Bool) (mark : Mark) where
         here .claimed,
         agrees-open (here .slot) (recordAt records (here .slot)) (here .latest) (here .agrees),
         hit,
-        map-same Closed changed closed-same (here .older) (here .olderOver)
+        same-each (here .older) (each-map Closed (λ c. changed c ≡ c) closed-same (here .older) (here .olderOver))
       )

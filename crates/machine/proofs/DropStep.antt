@@ -24,7 +24,7 @@ use Rattle.machine.proofs.ClaimLaws.{on}
 use Rattle.machine.proofs.Stories.{bounded-dropped, ended-by-drop}
 use Rattle.machine.proofs.Links.{Link, Here, link-elsewhere, link-over}
 use Rattle.machine.proofs.Invariant.{Linked, LinkedAfter, last-ask-counts, by-address, holds-own, holds-no-other, linked-here, agrees-bounded, count-changed}
-use Rattle.machine.proofs.Changes.{on-changed, unconcerned-same, concerned-marked}
+use Rattle.machine.proofs.Changes.{on-changed, unconcerned-each, same-each, concerned-marked}
 
 module _ (own : HardwareAddress) (s : Interface) (claims : List Claim) (asks : List ℕ) (linked : Linked own s claims asks)
     (time : Time) (slot : ℕ) (held : isFree (recordAt (s .records) slot) ≡ false) where
@@ -63,7 +63,8 @@ module _ (own : HardwareAddress) (s : Interface) (claims : List Claim) (asks : L
   drop-elsewhere other apart =
       rw (
         on-changed inSlot (dropped time) other claims,
-        unconcerned-same inSlot (dropped time) other (s .records) (on other claims) (linked .links other) spared
+        same-each inSlot (dropped time) (on other claims)
+          (unconcerned-each inSlot (dropped time) other (s .records) (on other claims) (linked .links other) spared)
       )
       (link-elsewhere (s .records) slot freeRecord room other (on other claims) not-mine refl (linked .links other))
     where

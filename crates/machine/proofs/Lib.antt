@@ -6,7 +6,9 @@ pub mod Stories
 pub mod Links
 pub mod Acceptance
 pub mod Invariant
+pub mod ConflictLaws
 pub mod Changes
 pub mod AskStep
 pub mod DropStep
 pub mod TickStep
+pub mod PacketStep

@@ -1,0 +1,106 @@
+-- A conflict with a record is one with its claim, and at most one record is concerned.
+use Prim.Native.Nat.{ℕ, _<_}
+use mathlib.Core.Path.{_≡_, refl, sym, ap, _∙_}
+use mathlib.Core.Bool.{Bool, true, false, not, cond, _&&_, _||_, true≢false, false≢true, and-true, or-false}
+use mathlib.Core.List.{List}
+use native.Mathlib.Omega.{arith}
+use lib.Dec.{eqb}
+use borrow.Author.Tests.{eqb-true, eq-eqb, ne-eqb}
+use Rattle.rules.specs.declared.Ipv4Address.{Ipv4Address}
+use Rattle.rules.specs.declared.HardwareAddress.{HardwareAddress}
+use Rattle.rules.specs.declared.Frame.{Frame}
+use Rattle.rules.specs.declared.Stage.{Stage}
+use Rattle.rules.specs.declared.Stage.the-variants.{Free, Probing, Announced, Settled}
+use Rattle.rules.specs.declared.Record.{Record}
+use Rattle.rules.specs.declared.Interface.{Interface}
+use Rattle.rules.proofs.BytesLaws.{and-both}
+use Rattle.machine.specs.Slots.{recordAt}
+use Rattle.machine.specs.Interface.{isOurs, isFree, isFreeStage, isSound}
+use Rattle.machine.specs.Conflicts.{isFrom, probesFor, isConflictAt, isConflict}
+use Rattle.machine.specs.Claims.{Mark, Claim, isInUse, isConflictWith}
+use Rattle.machine.proofs.Acceptance.{sound-at, allowed-number}
+use Rattle.machine.proofs.Stories.{untouched}
+use Rattle.machine.proofs.Links.{Story, Agrees}
+
+-- The observer's test with a claim not in use, and with one in use, as tests alone.
+tests-before-use : (from request zero target strange : Bool) →
+    ((from && (true || strange)) || (true && request && zero && target && strange)) ≡ (from || ((request && zero && target) && strange))
+tests-before-use true request zero target strange = refl
+tests-before-use false request zero target strange = refl
+
+tests-in-use : (from request zero target strange : Bool) →
+    ((from && (false || strange)) || (false && request && zero && target && strange)) ≡ (from && strange)
+tests-in-use true request zero target strange = or-false strange
+tests-in-use false request zero target strange = refl
+
+module _ (own : HardwareAddress) (f : Frame) where
+  story-conflict : (policy : ℕ) (stage : Stage) (c : Claim) (address : ℕ) → c .address .0 ≡ address → Story policy stage (c .marks) →
+      isConflictWith own f c ≡ isConflictAt own f address stage
+  unfolding isConflictWith
+  story-conflict policy Free c address e story = absurd story
+  story-conflict policy (Probing sent deadline) c address e story =
+      rw (untouched policy (c .marks) (story .only) .notInUse, e)
+      (tests-before-use (isFrom f address) (eqb (f .operation) 1) (eqb (f .sender .ip .0) 0) (eqb (f .target .ip .0) address)
+        (not (isOurs own (f .sender .hardware))))
+  story-conflict policy (Announced deadline conflict) c address e story =
+      rw (story .inUse, e)
+      (tests-in-use (isFrom f address) (eqb (f .operation) 1) (eqb (f .sender .ip .0) 0) (eqb (f .target .ip .0) address)
+        (not (isOurs own (f .sender .hardware))))
+  story-conflict policy (Settled conflict) c address e story =
+      rw (story .inUse, e)
+      (tests-in-use (isFrom f address) (eqb (f .operation) 1) (eqb (f .sender .ip .0) 0) (eqb (f .target .ip .0) address)
+        (not (isOurs own (f .sender .hardware))))
+
+  pub agrees-conflict : (slot : ℕ) (r : Record) (c : Claim) → Agrees slot r c → isConflictWith own f c ≡ isConflict own f r
+  agrees-conflict slot r c agrees = story-conflict (r .policy) (r .stage) c (r .address .0) (agrees .sameAddress) (agrees .story)
+
+  -- The address that a packet can be a conflict over.
+  concerned : ℕ
+  concerned = cond (eqb (f .sender .ip .0) 0) (f .target .ip .0) (f .sender .ip .0)
+
+  from-concerned : (address : ℕ) → 0 < address → isFrom f address ≡ true → address ≡ concerned
+  unfolding concerned
+  from-concerned address h e =
+      let same = eqb-true (f .sender .ip .0) address e in
+      rw (ne-eqb (f .sender .ip .0) 0 (λ z. omega arith)) (sym same)
+
+  probe-concerned : (address : ℕ) → probesFor f address ≡ true → address ≡ concerned
+  unfolding concerned
+  probe-concerned address e =
+      let two = and-both (eqb (f .operation) 1 && eqb (f .sender .ip .0) 0) (eqb (f .target .ip .0) address) e in
+      let one = and-both (eqb (f .operation) 1) (eqb (f .sender .ip .0) 0) (two .0) in
+      rw (one .1) (sym (eqb-true (f .target .ip .0) address (two .1)))
+
+  conflict-concerned : (address : ℕ) (stage : Stage) → 0 < address → isConflictAt own f address stage ≡ true → address ≡ concerned
+  conflict-concerned address Free h e = absurd (false≢true e)
+  conflict-concerned address (Probing sent deadline) h e = go (isFrom f address) refl e
+    where
+      go : (b : Bool) → isFrom f address ≡ b → (b || (probesFor f address && not (isOurs own (f .sender .hardware)))) ≡ true → address ≡ concerned
+      go true from e = from-concerned address h from
+      go false from e = probe-concerned address (and-both (probesFor f address) (not (isOurs own (f .sender .hardware))) e .0)
+  conflict-concerned address (Announced deadline conflict) h e =
+      from-concerned address h (and-both (isFrom f address) (not (isOurs own (f .sender .hardware))) e .0)
+  conflict-concerned address (Settled conflict) h e =
+      from-concerned address h (and-both (isFrom f address) (not (isOurs own (f .sender .hardware))) e .0)
+
+  -- A free record is in no conflict.
+  pub conflict-held : (r : Record) → isConflict own f r ≡ true → isFree r ≡ false
+  conflict-held r e = go (r .stage) e
+    where
+      go : (stage : Stage) → isConflictAt own f (r .address .0) stage ≡ true → isFreeStage stage ≡ false
+      go Free e = absurd (false≢true e)
+      go (Probing sent deadline) e = refl
+      go (Announced deadline conflict) e = refl
+      go (Settled conflict) e = refl
+
+  -- "At most one record can be concerned": two records of a sound state that a packet is a conflict with have one address.
+  pub one-concerned : (s : Interface) (slot other : ℕ) → isSound s ≡ true →
+      isConflict own f (recordAt (s .records) slot) ≡ true → isConflict own f (recordAt (s .records) other) ≡ true →
+      recordAt (s .records) slot .address .0 ≡ recordAt (s .records) other .address .0
+  one-concerned s slot other sound e d = at slot e ∙ sym (at other d)
+    where
+      at : (n : ℕ) → isConflict own f (recordAt (s .records) n) ≡ true → recordAt (s .records) n .address .0 ≡ concerned
+      at n e =
+          let r = recordAt (s .records) n in
+          let allowed = sound-at s n sound (conflict-held r e) .allowed in
+          conflict-concerned (r .address .0) (r .stage) (allowed-number (r .address) allowed .0) e
