@@ -12,3 +12,4 @@ pub mod AskStep
 pub mod DropStep
 pub mod TickStep
 pub mod PacketStep
+pub mod Demand3
