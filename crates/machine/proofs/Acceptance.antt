@@ -42,14 +42,13 @@ unfolding stateAndTime
 admitted s time others e =
     let one = row 1 (not (isSound s)) (3 if ltb lastTime (time .0) else 4 if ltb (time .0) (s .latest .0) else others) e in
     let three = row 3 (ltb lastTime (time .0)) (4 if ltb (time .0) (s .latest .0) else others) (one .1) in
-    let four = row 4 (ltb (time .0) (s .latest .0)) others (three .1) in
-    (
+    let four = row 4 (ltb (time .0) (s .latest .0)) others (three .1) in (
       record {
         sound = not-false (isSound s) (one .0);
         inRange = ltb-false lastTime (time .0) (three .0);
         notBefore = ltb-false (time .0) (s .latest .0) (four .0);
       },
-      four .1
+      four .1,
     )
 
 -- A sound state's own hardware address, and its records.
@@ -103,7 +102,7 @@ pub sound-at : (s : Interface) (slot : ℕ) → isSound s ≡ true → isFree (r
     SoundRecord (s .latest) (recordAt (s .records) slot)
 sound-at s slot e held =
     sound-record (s .latest) (recordAt (s .records) slot)
-      (all-holds (isSoundRecord (s .latest)) (s .records) slot (free-sound (s .latest)) (sound s e .eachSound)) held
+    (all-holds (isSoundRecord (s .latest)) (s .records) slot (free-sound (s .latest)) (sound s e .eachSound)) held
 
 -- An allowed address has 32 bits and is not zero.
 pub allowed-number : (address : Ipv4Address) → isAllowed address ≡ true → (0 < address .0) × (address .0 < 2 ^ 32)

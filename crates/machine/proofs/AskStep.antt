@@ -66,16 +66,16 @@ module _ (own : HardwareAddress) (s : Interface) (claims : List Claim) (asks : L
   unfolding on new claim
   ask-links =
       by-address (λ (a : Ipv4Address). Link a (set (s .records) slot new) (on a (claim ∷ claims))) address
-        (rw (eq-eqb (address .0) (address .0) refl)
-          (inr (link-taken (s .records) slot new room address claim (on address claims)
-            (holds-own new refl)
-            (record { sameAddress = refl; sameSlot = refl; samePolicy = refl; story = asked (time .0 + wait draw) })
-            (linked-away address (s .records) (on address claims)
-              (λ n. any-fails (holds address) (s .records) n refl (accepted .notHeld)) (linked .links address)))))
-        (λ other apart.
-          rw (ne-eqb (address .0) (other .0) (λ e. apart (sym e)))
-          (link-elsewhere (s .records) slot new room other (on other claims)
-            (rw free) (holds-no-other other new apart) (linked .links other)))
+      (rw (eq-eqb (address .0) (address .0) refl)
+      (inr (link-taken (s .records) slot new room address claim (on address claims)
+      (holds-own new refl)
+      (record { sameAddress = refl; sameSlot = refl; samePolicy = refl; story = asked (time .0 + wait draw) })
+      (linked-away address (s .records) (on address claims)
+      (λ n. any-fails (holds address) (s .records) n refl (accepted .notHeld)) (linked .links address)))))
+      (λ other apart.
+      rw (ne-eqb (address .0) (other .0) (λ e. apart (sym e)))
+      (link-elsewhere (s .records) slot new room other (on other claims)
+      (rw free) (holds-no-other other new apart) (linked .links other)))
 
   -- With fewer than ten conflicts there was no ask after the tenth.
   none-yet : (asks : List ℕ) (count : ℕ) (request : Moment) → LastAsk asks count request → count < rfc5227 .maxConflicts →
@@ -90,12 +90,14 @@ module _ (own : HardwareAddress) (s : Interface) (claims : List Claim) (asks : L
   ask-asks true e =
       let ten = leb-true (rfc5227 .maxConflicts) (conflictCount claims) e in
       let near = limited (conflictCount claims) (s .conflicts) (isWithin (rfc5227 .rateLimitInterval) time (s .request)) (linked .count)
-        ten (accepted .inTime) in
+      ten (accepted .inTime) in
       let later = ask-after asks (conflictCount claims) (s .request) time (linked .lastAsk) near in
       (spaced-cons (rfc5227 .rateLimitInterval) (time .0) asks later (linked .asksApart), (ten, refl))
-  ask-asks false e =
-      (linked .asksApart, none-yet asks (conflictCount claims) (s .request) (linked .lastAsk)
-        (leb-false (rfc5227 .maxConflicts) (conflictCount claims) e))
+  ask-asks false e = (
+    linked .asksApart,
+    none-yet asks (conflictCount claims) (s .request) (linked .lastAsk)
+        (leb-false (rfc5227 .maxConflicts) (conflictCount claims) e),
+  )
 
   ask-linked : LinkedAfter own claims asks (ask time address policy draw) (askOutcome s time address policy draw)
   unfolding askOutcome claimsAfter conflictCount conflicts new claim
@@ -103,12 +105,12 @@ module _ (own : HardwareAddress) (s : Interface) (claims : List Claim) (asks : L
       let later = ask-asks (leb (rfc5227 .maxConflicts) (conflictCount claims)) refl in
       rw lowestFree
       (record {
-          hardware = linked .hardware;
-          links = ask-links;
-          count = rw (zero-add (conflictCount claims)) (linked .count);
-          asksApart = later .0;
-          lastAsk = rw (zero-add (conflictCount claims)) (later .1);
-        })
+        hardware = linked .hardware;
+        links = ask-links;
+        count = rw (zero-add (conflictCount claims)) (linked .count);
+        asksApart = later .0;
+        lastAsk = rw (zero-add (conflictCount claims)) (later .1);
+      })
 
 pub ask-step : (own : HardwareAddress) (s : Interface) (claims : List Claim) (asks : List ℕ) → Linked own s claims asks →
     (time : Time) (address : Ipv4Address) (policy draw : ℕ) → askRefusal s time address policy ≡ none →
@@ -117,6 +119,7 @@ ask-step own s claims asks linked time address policy draw e = go (lowest isFree
   where
     facts : AskAccepted s time address policy
     facts = ask-accepted s time address policy e
+
     go : (o : Option ℕ) → lowest isFree (s .records) ≡ o →
         LinkedAfter own claims asks (ask time address policy draw) (askOutcome s time address policy draw)
     go none full = absurd (true≢false (rw full at (facts .room)))

@@ -60,5 +60,5 @@ module _ (test : Claim → Bool) (mark : Mark) where
         here .claimed,
         agrees-open (here .slot) (recordAt records (here .slot)) (here .latest) (here .agrees),
         hit,
-        same-each (here .older) (each-map Closed (λ c. changed c ≡ c) closed-same (here .older) (here .olderOver))
+        same-each (here .older) (each-map Closed (λ c. changed c ≡ c) closed-same (here .older) (here .olderOver)),
       )

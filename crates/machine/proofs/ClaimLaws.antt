@@ -68,6 +68,7 @@ module _ (address : Ipv4Address) where
       not-here : isOn other c ≡ true → (b : Bool) → isOn address c ≡ b → b ≡ false
       not-here o true e = absurd (apart (sym (eqb-true (c .address .0) (other .0) o) ∙ eqb-true (c .address .0) (address .0) e))
       not-here o false e = refl
+
       go : (b : Bool) → isOn other c ≡ b → on address (markedLatest other mark earlier) ≡ on address earlier →
           on address (cond b (marked mark c ∷ earlier) (c ∷ markedLatest other mark earlier))
           ≡ cond (isOn address c) (c ∷ on address earlier) (on address earlier)
@@ -82,9 +83,11 @@ on-each P (c ∷ earlier) each = (here (isOn (c .address) c) self (each (c .addr
   where
     self : isOn (c .address) c ≡ true
     self = eq-eqb (c .address .0) (c .address .0) refl
+
     here : (b : Bool) → b ≡ true → Each P (cond b (c ∷ on (c .address) earlier) (on (c .address) earlier)) → P c
     here true e all = all .0
     here false e all = absurd (false≢true e)
+
     later : (address : Ipv4Address) → Each P (on address earlier)
     later address = go (isOn address c) (each address)
       where

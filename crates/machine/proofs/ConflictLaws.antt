@@ -41,15 +41,15 @@ module _ (own : HardwareAddress) (f : Frame) where
   story-conflict policy (Probing sent deadline) c address e story =
       rw (untouched policy (c .marks) (story .only) .notInUse, e)
       (tests-before-use (isFrom f address) (eqb (f .operation) 1) (eqb (f .sender .ip .0) 0) (eqb (f .target .ip .0) address)
-        (not (isOurs own (f .sender .hardware))))
+      (not (isOurs own (f .sender .hardware))))
   story-conflict policy (Announced deadline conflict) c address e story =
       rw (story .inUse, e)
       (tests-in-use (isFrom f address) (eqb (f .operation) 1) (eqb (f .sender .ip .0) 0) (eqb (f .target .ip .0) address)
-        (not (isOurs own (f .sender .hardware))))
+      (not (isOurs own (f .sender .hardware))))
   story-conflict policy (Settled conflict) c address e story =
       rw (story .inUse, e)
       (tests-in-use (isFrom f address) (eqb (f .operation) 1) (eqb (f .sender .ip .0) 0) (eqb (f .target .ip .0) address)
-        (not (isOurs own (f .sender .hardware))))
+      (not (isOurs own (f .sender .hardware))))
 
   pub agrees-conflict : (slot : ℕ) (r : Record) (c : Claim) → Agrees slot r c → isConflictWith own f c ≡ isConflict own f r
   agrees-conflict slot r c agrees = story-conflict (r .policy) (r .stage) c (r .address .0) (agrees .sameAddress) (agrees .story)

@@ -46,15 +46,15 @@ module _ (own : HardwareAddress) (s : Interface) (claims : List Claim) (asks : L
       let mine : inSlot (here .latest) ≡ true = rw (here .agrees .sameSlot) (eq-eqb (here .slot) slot (w .1)) in
       rw (
         on-changed inSlot (dropped time) (r .address) claims,
-        concerned-marked inSlot (dropped time) (r .address) (s .records) (on (r .address) claims) here mine
+        concerned-marked inSlot (dropped time) (r .address) (s .records) (on (r .address) claims) here mine,
       )
       (inl (link-over (s .records) slot freeRecord room (r .address) (on (r .address) claims) here (w .1)
-        (marked (dropped time) (here .latest)) refl
-        (record {
-            ended = ended-by-drop (here .latest .policy) time (here .latest .marks);
-            bounded = bounded-dropped time (here .latest .marks)
-                (agrees-bounded (here .slot) (recordAt (s .records) (here .slot)) (here .latest) (here .agrees));
-          })))
+      (marked (dropped time) (here .latest)) refl
+      (record {
+        ended = ended-by-drop (here .latest .policy) time (here .latest .marks);
+        bounded = bounded-dropped time (here .latest .marks)
+            (agrees-bounded (here .slot) (recordAt (s .records) (here .slot)) (here .latest) (here .agrees));
+      })))
 
   -- Another address is in another slot, or in none.
   drop-elsewhere : (other : Ipv4Address) → (other .0 ≡ r .address .0 → ⊥) →
@@ -64,17 +64,18 @@ module _ (own : HardwareAddress) (s : Interface) (claims : List Claim) (asks : L
       rw (
         on-changed inSlot (dropped time) other claims,
         same-each inSlot (dropped time) (on other claims)
-          (unconcerned-each inSlot (dropped time) other (s .records) (on other claims) (linked .links other) spared)
+            (unconcerned-each inSlot (dropped time) other (s .records) (on other claims) (linked .links other) spared),
       )
       (link-elsewhere (s .records) slot freeRecord room other (on other claims) not-mine refl (linked .links other))
     where
       not-mine : holds other (recordAt (s .records) slot) ≡ false
       not-mine = holds-no-other other r apart
+
       spared : (here : Here other (s .records) (on other claims)) → inSlot (here .latest) ≡ false
       spared here =
           rw (here .agrees .sameSlot)
           (ne-eqb (here .slot) slot
-            (λ e. false≢true (sym not-mine ∙ subst (λ (n : ℕ). holds other (recordAt (s .records) n) ≡ true) e (here .held))))
+          (λ e. false≢true (sym not-mine ∙ subst (λ (n : ℕ). holds other (recordAt (s .records) n) ≡ true) e (here .held))))
 
   drop-conflicts : (c : Claim) → conflicts (released time slot c .marks) ≡ conflicts (c .marks)
   unfolding conflicts

@@ -79,24 +79,25 @@ module _ (records : List Record) (slot : ℕ) (new : Record) (room : slot < leng
         Link address records claims → Link address (set records slot new) claims
     link-elsewhere claims old-not new-not (inl away) =
         inl (record {
-            nowhere = at-each (λ n r. holds address r ≡ false) new-not (λ other apart. away .nowhere other);
-            allOver = away .allOver;
-          })
+          nowhere = at-each (λ n r. holds address r ≡ false) new-not (λ other apart. away .nowhere other);
+          allOver = away .allOver;
+        })
     link-elsewhere claims old-not new-not (inr here) =
         inr (record {
-            slot = here .slot;
-            latest = here .latest;
-            older = here .older;
-            claimed = here .claimed;
-            held = subst (λ (r : Record). holds address r ≡ true) (sym same) (here .held);
-            onlyHere = at-each (λ n r. holds address r ≡ true → n ≡ here .slot) (λ e. absurd (false≢true (sym new-not ∙ e)))
-                (λ other apart. here .onlyHere other);
-            agrees = subst (λ (r : Record). Agrees (here .slot) r (here .latest)) (sym same) (here .agrees);
-            olderOver = here .olderOver;
-          })
+          slot = here .slot;
+          latest = here .latest;
+          older = here .older;
+          claimed = here .claimed;
+          held = subst (λ (r : Record). holds address r ≡ true) (sym same) (here .held);
+          onlyHere = at-each (λ n r. holds address r ≡ true → n ≡ here .slot) (λ e. absurd (false≢true (sym new-not ∙ e)))
+              (λ other apart. here .onlyHere other);
+          agrees = subst (λ (r : Record). Agrees (here .slot) r (here .latest)) (sym same) (here .agrees);
+          olderOver = here .olderOver;
+        })
       where
         moved : here .slot ≡ slot → ⊥
         moved e = false≢true (sym old-not ∙ subst (λ (n : ℕ). holds address (recordAt records n) ≡ true) e (here .held))
+
         same : recordAt (set records slot new) (here .slot) ≡ recordAt records (here .slot)
         same = getD-set-other records slot (here .slot) new freeRecord moved
 

@@ -77,7 +77,7 @@ module _ (policy : ℕ) (latest t : Time) (later : latest .0 ≤ t .0) (marks : 
   defended-in-use conflict sent w e past =
       let facts = defended-bears policy conflict sent t marks w e in
       defence-sent policy conflict sent t marks
-        (conflict-borne policy conflict sent t marks w (past-later latest t conflict later past) (facts .0)) (w .behind) (facts .1)
+      (conflict-borne policy conflict sent t marks w (past-later latest t conflict later past) (facts .0)) (w .behind) (facts .1)
 
   defended-story : (stage : Stage) → responseAt policy t stage ≡ Defend → isSoundStage latest stage ≡ true → Story policy stage marks →
       Story policy (seenAt t stage) (defended t ∷ (disputed t ∷ marks))
@@ -165,21 +165,21 @@ module _ (own : HardwareAddress) (s : Interface) (claims : List Claim) (asks : L
     untouched-claims : map (struck own t f) claims ≡ claims
     untouched-claims =
         same-each (isConflictWith own f) (disputed t) claims
-          (on-each (λ c. struck own t f c ≡ c) claims
-            (λ address. unconcerned-each (isConflictWith own f) (disputed t) address (s .records) (on address claims)
-              (linked .links address) (spared address)))
+        (on-each (λ c. struck own t f c ≡ c) claims
+        (λ address. unconcerned-each (isConflictWith own f) (disputed t) address (s .records) (on address claims)
+        (linked .links address) (spared address)))
 
     packet-nothing : LinkedAfter own claims asks (packet t bytes out) (meet s t f none)
     unfolding claimsAfter f
     packet-nothing =
         rw untouched-claims
         (record {
-            hardware = linked .hardware;
-            links = linked .links;
-            count = linked .count;
-            asksApart = linked .asksApart;
-            lastAsk = linked .lastAsk;
-          })
+          hardware = linked .hardware;
+          links = linked .links;
+          count = linked .count;
+          asksApart = linked .asksApart;
+          lastAsk = linked .lastAsk;
+        })
 
   -- A conflict is found.
   module _ (slot : ℕ) (found : lowest (isConflict (s .hardware) f) (s .records) ≡ some slot) where
@@ -203,7 +203,7 @@ module _ (own : HardwareAddress) (s : Interface) (claims : List Claim) (asks : L
     hit-here address here e =
         here .agrees .sameAddress
         ∙ one-concerned (s .hardware) f s (here .slot) slot (admission .sound)
-          (sym (agreed-conflict (here .slot) (here .latest) (here .agrees)) ∙ e) conflicting
+        (sym (agreed-conflict (here .slot) (here .latest) (here .agrees)) ∙ e) conflicting
 
     spared-other : (other : Ipv4Address) → (other .0 ≡ r .address .0 → ⊥) → (here : Here other (s .records) (on other claims)) →
         isConflictWith own f (here .latest) ≡ false
@@ -212,14 +212,14 @@ module _ (own : HardwareAddress) (s : Interface) (claims : List Claim) (asks : L
         go : (b : Bool) → isConflictWith own f (here .latest) ≡ b → b ≡ false
         go true e =
             absurd (apart (sym (held-address other (recordAt (s .records) (here .slot)) (here .held) .1)
-              ∙ sym (here .agrees .sameAddress) ∙ hit-here other here e))
+            ∙ sym (here .agrees .sameAddress) ∙ hit-here other here e))
         go false e = refl
 
     on-other : (other : Ipv4Address) → (other .0 ≡ r .address .0 → ⊥) → on other (map (struck own t f) claims) ≡ on other claims
     on-other other apart =
         on-changed (isConflictWith own f) (disputed t) other claims
         ∙ same-each (isConflictWith own f) (disputed t) (on other claims)
-          (unconcerned-each (isConflictWith own f) (disputed t) other (s .records) (on other claims) (linked .links other) (spared-other other apart))
+        (unconcerned-each (isConflictWith own f) (disputed t) other (s .records) (on other claims) (linked .links other) (spared-other other apart))
 
     links-other : (new : Record) → ((other : Ipv4Address) → (other .0 ≡ r .address .0 → ⊥) → holds other new ≡ false) →
         (other : Ipv4Address) → (other .0 ≡ r .address .0 → ⊥) →
@@ -235,14 +235,14 @@ module _ (own : HardwareAddress) (s : Interface) (claims : List Claim) (asks : L
       where
         over : (c : Claim) → Closed c → isHit own t f c ≡ true → isOn (r .address) c ≡ true
         over c closed e = absurd (false≢true (sym (closed-unhit own t f c closed) ∙ e))
+
         go : Link address (s .records) (on address claims) → Each (λ c. isHit own t f c ≡ true → isOn (r .address) c ≡ true) (on address claims)
         go (inl away) = each-map Closed (λ c. isHit own t f c ≡ true → isOn (r .address) c ≡ true) over (on address claims) (away .allOver)
         go (inr here) =
-            rw (here .claimed)
-            (
+            rw (here .claimed) (
               λ e. eq-eqb (here .latest .address .0) (r .address .0)
-                (hit-here address here (and-both (isOpen (here .latest)) (isConflictWith own f (here .latest)) e .1)),
-              each-map Closed (λ c. isHit own t f c ≡ true → isOn (r .address) c ≡ true) over (here .older) (here .olderOver)
+                  (hit-here address here (and-both (isOpen (here .latest)) (isConflictWith own f (here .latest)) e .1)),
+              each-map Closed (λ c. isHit own t f c ≡ true → isOn (r .address) c ≡ true) over (here .older) (here .olderOver),
             )
 
     module _ (here : Here (r .address) (s .records) (on (r .address) claims)) (mine : here .slot ≡ slot) where
@@ -267,7 +267,7 @@ module _ (own : HardwareAddress) (s : Interface) (claims : List Claim) (asks : L
             here .claimed,
             agrees-open slot r (here .latest) agreed,
             hit,
-            unhit-none own t f (here .older) (here .olderOver)
+            unhit-none own t f (here .older) (here .olderOver),
           )
 
       counted : conflictCount (map (struck own t f) claims) ≡ suc (conflictCount claims)
@@ -294,13 +294,13 @@ module _ (own : HardwareAddress) (s : Interface) (claims : List Claim) (asks : L
             hardware = linked .hardware;
             links = by-address (λ (a : Ipv4Address). Link a (set (s .records) slot freeRecord) (on a (map (struck own t f) claims))) (r .address)
                 (rw on-mine
-                  (inl (link-over (s .records) slot freeRecord room (r .address) (on (r .address) claims) here mine
-                    (marked (disputed t) (here .latest)) refl
-                    (record {
-                        ended = rw (agreed .samePolicy)
-                            (lost-story (r .policy) (s .latest) t (admission .notBefore) (here .latest .marks) (r .stage) e (agreed .story));
-                        bounded = bounded-disputed t (here .latest .marks) bounded;
-                      }))))
+                (inl (link-over (s .records) slot freeRecord room (r .address) (on (r .address) claims) here mine
+                (marked (disputed t) (here .latest)) refl
+                (record {
+                  ended = rw (agreed .samePolicy)
+                      (lost-story (r .policy) (s .latest) t (admission .notBefore) (here .latest .marks) (r .stage) e (agreed .story));
+                  bounded = bounded-disputed t (here .latest .marks) bounded;
+                }))))
                 (links-other freeRecord (λ other apart. refl));
             count = count-after;
             asksApart = linked .asksApart;
@@ -322,14 +322,14 @@ module _ (own : HardwareAddress) (s : Interface) (claims : List Claim) (asks : L
             hardware = linked .hardware;
             links = by-address (λ (a : Ipv4Address). Link a (set (s .records) slot seen) (on a (map (struck own t f) claims))) (r .address)
                 (rw on-mine
-                  (inr (link-goes-on (s .records) slot seen room (r .address) (on (r .address) claims) here mine
-                    (marked (disputed t) (here .latest)) (holds-own seen seen-taken)
-                    (record {
-                        sameAddress = agreed .sameAddress;
-                        sameSlot = agreed .sameSlot;
-                        samePolicy = agreed .samePolicy;
-                        story = kept-story (r .policy) (s .latest) t (admission .notBefore) (here .latest .marks) (r .stage) e soundStage (agreed .story);
-                      }))))
+                (inr (link-goes-on (s .records) slot seen room (r .address) (on (r .address) claims) here mine
+                (marked (disputed t) (here .latest)) (holds-own seen seen-taken)
+                (record {
+                  sameAddress = agreed .sameAddress;
+                  sameSlot = agreed .sameSlot;
+                  samePolicy = agreed .samePolicy;
+                  story = kept-story (r .policy) (s .latest) t (admission .notBefore) (here .latest .marks) (r .stage) e soundStage (agreed .story);
+                }))))
                 (links-other seen (λ other apart. holds-no-other other seen apart));
             count = count-after;
             asksApart = linked .asksApart;
@@ -341,7 +341,7 @@ module _ (own : HardwareAddress) (s : Interface) (claims : List Claim) (asks : L
       unfolding announcement r
       defends-here =
           ap (λ (g : Frame). g .target .ip)
-            (announcement-reads (s .hardware) (r .address) (sound s (admission .sound) .own) (sound-at s slot (admission .sound) held .allowed) out)
+          (announcement-reads (s .hardware) (r .address) (sound s (admission .sound) .own) (sound-at s slot (admission .sound) held .allowed) out)
 
       defence-conflicts : (marks : List Mark) → conflicts (defended t ∷ marks) ≡ conflicts marks
       unfolding conflicts
@@ -359,13 +359,13 @@ module _ (own : HardwareAddress) (s : Interface) (claims : List Claim) (asks : L
       defend-here e =
           rw (on-marked (r .address) (defended t) (map (struck own t f) claims), on-mine)
           (inr (link-goes-on (s .records) slot seen room (r .address) (on (r .address) claims) here mine
-            (marked (defended t) (marked (disputed t) (here .latest))) (holds-own seen seen-taken)
-            (record {
-                sameAddress = agreed .sameAddress;
-                sameSlot = agreed .sameSlot;
-                samePolicy = agreed .samePolicy;
-                story = defended-story (r .policy) (s .latest) t (admission .notBefore) (here .latest .marks) (r .stage) e soundStage (agreed .story);
-              })))
+          (marked (defended t) (marked (disputed t) (here .latest))) (holds-own seen seen-taken)
+          (record {
+            sameAddress = agreed .sameAddress;
+            sameSlot = agreed .sameSlot;
+            samePolicy = agreed .samePolicy;
+            story = defended-story (r .policy) (s .latest) t (admission .notBefore) (here .latest .marks) (r .stage) e soundStage (agreed .story);
+          })))
 
       defend-elsewhere : (other : Ipv4Address) → (other .0 ≡ r .address .0 → ⊥) → Link other (set (s .records) slot seen) (on other defended-claims)
       unfolding defended-claims seen r
@@ -379,13 +379,13 @@ module _ (own : HardwareAddress) (s : Interface) (claims : List Claim) (asks : L
       defended-linked e =
           rw defends-here
           (record {
-              hardware = linked .hardware;
-              links = by-address (λ (a : Ipv4Address). Link a (set (s .records) slot seen) (on a defended-claims)) (r .address)
-                  (defend-here e) defend-elsewhere;
-              count = rw defended-count count-after;
-              asksApart = linked .asksApart;
-              lastAsk = rw defended-count asks-after;
-            })
+            hardware = linked .hardware;
+            links = by-address (λ (a : Ipv4Address). Link a (set (s .records) slot seen) (on a defended-claims)) (r .address)
+                (defend-here e) defend-elsewhere;
+            count = rw defended-count count-after;
+            asksApart = linked .asksApart;
+            lastAsk = rw defended-count asks-after;
+          })
 
       packet-conflict : (chosen : Response) → responseAt (r .policy) t (r .stage) ≡ chosen →
           LinkedAfter own claims asks (packet t bytes out) (respond s t slot r chosen)
@@ -401,6 +401,7 @@ packet-step own s claims asks linked t bytes out e = go (lowest (isConflict (s .
   where
     admission : Admitted s t
     admission = packet-accepted s t bytes (length out) e
+
     go : (o : Option ℕ) → lowest (isConflict (s .hardware) (frameOf bytes)) (s .records) ≡ o →
         LinkedAfter own claims asks (packet t bytes out) (meet s t (frameOf bytes) o)
     go none found = packet-nothing own s claims asks linked t bytes out admission found

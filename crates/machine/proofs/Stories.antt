@@ -150,12 +150,12 @@ first-announced policy deadline t marks w late =
       before = marks;
       split = refl;
       through = record {
-          only = w .only;
-          number = w .number;
-          atMost = w .atMost;
-          apart = w .apart;
-          due = after-later (leastDelay (rfc5227 .probeNum)) (probes marks) deadline (t .0) late (w .due);
-        };
+        only = w .only;
+        number = w .number;
+        atMost = w .atMost;
+        apart = w .apart;
+        due = after-later (leastDelay (rfc5227 .probeNum)) (probes marks) deadline (t .0) late (w .due);
+      };
       allProbes = w .number;
       number = rw (quiet .noAnnouncements);
       inUse = refl;

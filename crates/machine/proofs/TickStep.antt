@@ -70,10 +70,10 @@ module _ (own : HardwareAddress) (address : Ipv4Address) (policy : ℕ) (t : Tim
 
   served-probe : (sent : ℕ) (deadline : Time) → deadline .0 ≤ t .0 → sent < rfc5227 .probeNum → Story policy (Probing sent deadline) marks →
       Served own address policy t marks (record {
-          kind = Probe;
-          stage = Probing (suc sent) (after t (delay (suc sent) draw));
-          frame = some (probe own address);
-        })
+        kind = Probe;
+        stage = Probing (suc sent) (after t (delay (suc sent) draw));
+        frame = some (probe own address);
+      })
   unfolding probe
   served-probe sent deadline late more story =
       record {
@@ -107,6 +107,7 @@ module _ (own : HardwareAddress) (address : Ipv4Address) (policy : ℕ) (t : Tim
     where
       past : d .0 ≤ t .0
       past = let same = eqb-true (d .0) deadline has in omega arith
+
       go : (b : Bool) → ltb sent (rfc5227 .probeNum) ≡ b → Served own address policy t marks (serviceAt own address t draw (Probing sent d))
       go true e = rw e (served-probe sent d past (ltb-true sent (rfc5227 .probeNum) e) story)
       go false e =
@@ -114,7 +115,7 @@ module _ (own : HardwareAddress) (address : Ipv4Address) (policy : ℕ) (t : Tim
           let most = story .atMost in
           let three : sent ≡ rfc5227 .probeNum = omega arith in
           rw e (served-announcement Announce (Announced (after t (rfc5227 .announceInterval)) Never) refl refl
-            (first-announced policy (d .0) t marks (subst (λ (n : ℕ). Probed n (d .0) marks) three story) past))
+          (first-announced policy (d .0) t marks (subst (λ (n : ℕ). Probed n (d .0) marks) three story) past))
   served-stage (Announced d conflict) deadline has late story =
       served-announcement Announce (Settled conflict) refl refl (second-announced policy conflict t marks story)
   served-stage (Settled conflict) deadline has late story = absurd (false≢true has)
@@ -163,8 +164,8 @@ module _ (own : HardwareAddress) (s : Interface) (claims : List Claim) (asks : L
       unfolding r served service
       serves =
           served-stage (s .hardware) (r .address) (r .policy) time draw (here .latest .marks)
-            (sound s (admission .sound) .own) (sound-at s slot (admission .sound) held .allowed)
-            (r .stage) (due .deadline) (due .has) (due .late) (agreed .story)
+          (sound s (admission .sound) .own) (sound-at s slot (admission .sound) held .allowed)
+          (r .stage) (due .deadline) (due .has) (due .late) (agreed .story)
 
       mark : Mark
       mark = ticked time (serves .frame)
@@ -174,13 +175,13 @@ module _ (own : HardwareAddress) (s : Interface) (claims : List Claim) (asks : L
       tick-here =
           rw (on-marked (r .address) mark claims, here .claimed)
           (inr (link-goes-on (s .records) slot new (due .room) (r .address) (on (r .address) claims) here mine (marked mark (here .latest))
-            (holds-own new (serves .taken))
-            (record {
-                sameAddress = agreed .sameAddress;
-                sameSlot = agreed .sameSlot;
-                samePolicy = agreed .samePolicy;
-                story = serves .story;
-              })))
+          (holds-own new (serves .taken))
+          (record {
+            sameAddress = agreed .sameAddress;
+            sameSlot = agreed .sameSlot;
+            samePolicy = agreed .samePolicy;
+            story = serves .story;
+          })))
 
       tick-elsewhere : (other : Ipv4Address) → (other .0 ≡ r .address .0 → ⊥) →
           Link other (set (s .records) slot new) (on other (markedLatest (r .address) mark claims))
@@ -188,7 +189,7 @@ module _ (own : HardwareAddress) (s : Interface) (claims : List Claim) (asks : L
       tick-elsewhere other apart =
           rw (on-marked-other other (r .address) (λ e. apart (sym e)) mark claims)
           (link-elsewhere (s .records) slot new (due .room) other (on other claims)
-            (holds-no-other other r apart) (holds-no-other other new apart) (linked .links other))
+          (holds-no-other other r apart) (holds-no-other other new apart) (linked .links other))
 
       mark-conflicts : (marks : List Mark) → conflicts (mark ∷ marks) ≡ conflicts marks
       unfolding conflicts mark
@@ -204,14 +205,14 @@ module _ (own : HardwareAddress) (s : Interface) (claims : List Claim) (asks : L
           let same = count-marked (r .address) mark mark-conflicts claims in
           rw (serves .sends, serves .counts, serves .reads out, serves .target)
           (record {
-              hardware = linked .hardware;
-              links = by-address
-                  (λ (a : Ipv4Address). Link a (set (s .records) slot new) (on a (markedLatest (r .address) mark claims)))
-                  (r .address) tick-here tick-elsewhere;
-              count = rw same (linked .count);
-              asksApart = linked .asksApart;
-              lastAsk = rw same (linked .lastAsk);
-            })
+            hardware = linked .hardware;
+            links = by-address
+                (λ (a : Ipv4Address). Link a (set (s .records) slot new) (on a (markedLatest (r .address) mark claims)))
+                (r .address) tick-here tick-elsewhere;
+            count = rw same (linked .count);
+            asksApart = linked .asksApart;
+            lastAsk = rw same (linked .lastAsk);
+          })
 
 pub tick-step : (own : HardwareAddress) (s : Interface) (claims : List Claim) (asks : List ℕ) → Linked own s claims asks →
     (time : Time) (draw : ℕ) (out : List ℕ) → tickRefusal s time (length out) ≡ none →
@@ -221,6 +222,7 @@ tick-step own s claims asks linked time draw out e = go (dueSlot time (s .record
   where
     admission : Admitted s time
     admission = tick-accepted s time (length out) e
+
     go : (o : Option ℕ) → dueSlot time (s .records) ≡ o →
         LinkedAfter own claims asks (tick time draw out) (serve s time draw o)
     go none d = tick-nothing own s claims asks linked time draw out admission
@@ -228,5 +230,5 @@ tick-step own s claims asks linked time draw out e = go (dueSlot time (s .record
         let due = due-slot time (s .records) slot (smallestDeadline (s .records)) d in
         let address = recordAt (s .records) slot .address in
         let w = linked-here address (s .records) (on address claims) slot
-          (holds-own (recordAt (s .records) slot) (held own s claims asks linked time draw out admission slot due)) (linked .links address) in
+        (holds-own (recordAt (s .records) slot) (held own s claims asks linked time draw out admission slot due)) (linked .links address) in
         tick-linked own s claims asks linked time draw out admission slot due (w .0) (w .1)

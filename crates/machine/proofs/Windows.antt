@@ -51,7 +51,7 @@ module _ (ms a b : ℕ) where
   latest time [] spaced = one time (leb a time && leb time b) refl
   latest time (before ∷ earlier) spaced =
       more time before (countFrom a b (before ∷ earlier)) (leb a time && leb time b) refl (spaced .0)
-        (latest before earlier (spaced .1))
+      (latest before earlier (spaced .1))
 
 pub spaced-few : (ms : ℕ) → 0 < ms → (times : List ℕ) → Spaced ms times → AtMostOneEach ms times
 unfolding Fits

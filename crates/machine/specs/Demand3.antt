@@ -17,7 +17,7 @@ use Rattle.rules.specs.declared.Answer.{Answer}
 use Rattle.machine.specs.Timing.{rfc5227}
 use Rattle.machine.specs.Slots.{any}
 use Rattle.machine.specs.Interface.{holds, isUsableStage}
-use Rattle.machine.specs.Calls.{Call, fresh, ask, tick, packet, drop}
+use Rattle.machine.specs.Calls.{Call, fresh, ask, tick, packet, drop, freshOutcome}
 use Rattle.machine.specs.Machine.{Result, resultOf, Promised}
 use Rattle.machine.specs.Claims.{Event, Mark, announced, Claim, isOpen, claimsOf, latestOn, probes, announcements, defences, conflicts, asksAfterTenth}
 
@@ -147,7 +147,9 @@ pub record CountForNothing (own : HardwareAddress) (start : Interface) (steps ot
 
 -- "Demand 3 is a single claim about the whole history."
 pub record Demand3 (own : HardwareAddress) (start : Interface) (steps : List Step) : Type 0 where
-  -- (a) At each call the refusal number or whole answer, the new state and every lent byte are the plain machine's.
+  -- (a) At fresh the state, and at each call the refusal number or whole answer, the new state and every lent byte are the
+  -- plain machine's.
+  pub begunAsTheMachine : start ≡ freshOutcome own .state
   pub asTheMachine : map resultIn steps ≡ plainMachine start (map (λ (step : Step). step .call) steps)
   -- (b) An address is usable exactly if its latest accepted ask went through and was not given up since.
   pub usableExactlyIf : (address : Ipv4Address) →
