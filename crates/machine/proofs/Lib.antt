@@ -13,3 +13,4 @@ pub mod DropStep
 pub mod TickStep
 pub mod PacketStep
 pub mod Demand3
+pub mod Bench

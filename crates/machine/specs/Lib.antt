@@ -9,3 +9,4 @@ pub mod Refusals
 pub mod Machine
 pub mod Claims
 pub mod Demand3
+pub mod Bench

@@ -1,0 +1,139 @@
+-- Document 01, "Bench cases": W1 to W12, one table under one claim.
+use Prim.Native.Nat.{ℕ}
+use mathlib.Core.Path.{_≡_, refl}
+use mathlib.Core.List.{List, [], _∷_, map}
+use mathlib.Core.Option.{Option, none, some}
+use lib.IntN.{ℤ, pos, negsuc}
+use lib.ListN.{replicate}
+use Rattle.rules.specs.Answers.{Report, refused, accepted, Accepted}
+use Rattle.rules.specs.Frame.{frameBytes, probe, announcement}
+use Rattle.rules.specs.Clock.{ClockReport, clockOf}
+use Rattle.rules.specs.declared.Ipv4Address.{Ipv4Address}
+use Rattle.rules.specs.declared.HardwareAddress.{HardwareAddress}
+use Rattle.rules.specs.declared.Time.{Time}
+use Rattle.rules.specs.declared.Moment.{Moment}
+use Rattle.rules.specs.declared.Moment.the-variants.{Never, At}
+use Rattle.rules.specs.declared.Stage.{Stage}
+use Rattle.rules.specs.declared.Stage.the-variants.{Probing, Settled}
+use Rattle.rules.specs.declared.Interface.{Interface}
+use Rattle.rules.specs.declared.Kind.{Kind}
+use Rattle.rules.specs.declared.Kind.the-variants.{Taken, Nothing, Defend, Lost, Kept}
+use Rattle.machine.specs.Timing.{wait}
+use Rattle.machine.specs.Slots.{freeRecord}
+use Rattle.machine.specs.Calls.{Call, ask, packet}
+use Rattle.machine.specs.Machine.{resultOf}
+
+-- What a case looks at: a wait, the clock's step with the time or the refusal, the kind of an answer, or a refusal.
+pub data Seen : Type 0 where
+  waits : ℕ → Seen
+  widens : ℤ → ℕ → Seen
+  stays : ℤ → ℕ → Seen
+  kind : Kind → Seen
+  refusal : ℕ → Seen
+
+abbrev pub seenTime : ℤ → Report ℕ → Seen
+seenTime step (refused n) = stays step n
+seenTime step (accepted time) = widens step time
+
+abbrev pub seenClock : ClockReport → Seen
+seenClock report = seenTime (report .step) (report .time)
+
+abbrev pub seenAnswer : Report Accepted → Seen
+seenAnswer (refused n) = refusal n
+seenAnswer (accepted answer) = kind (answer .kind)
+
+-- The machine's answers to calls, the first one first.
+unfoldable pub answers : Interface → List Call → List Seen
+answers s [] = []
+answers s (call ∷ later) = seenAnswer (resultOf s call .report) ∷ answers (resultOf s call .state) later
+
+-- An interface with 192.0.2.7 in slot 0, and another machine.
+abbrev pub at : ℕ → Time
+at ms = record { 0 = ms }
+
+abbrev pub ours : HardwareAddress
+ours = record { 0 = 0x02000000000a }
+
+abbrev pub another : HardwareAddress
+another = record { 0 = 0x02000000000b }
+
+abbrev pub ward : Ipv4Address
+ward = record { 0 = 0xc0000207 }
+
+abbrev pub port : ℕ → Stage → ℕ → Moment → Interface
+port policy stage count request =
+    record {
+      hardware = ours;
+      latest = at 10_000;
+      request = request;
+      conflicts = count;
+      records = record { address = ward; policy = policy; stage = stage } ∷ freeRecord ∷ freeRecord ∷ freeRecord ∷ [];
+    }
+
+-- Another machine's announcement of our address, at each of these times.
+abbrev pub conflictAt : ℕ → Call
+conflictAt ms = packet (at ms) (frameBytes (announcement another ward)) (replicate 28 0)
+
+pub record Case : Type 0 where
+  pub rules : List Seen
+  pub paper : List Seen
+
+abbrev pub cases : List Case
+cases =
+    -- W1 "draw 1,000 gives wait 1,000, draw 1,001 gives 0"
+    record { rules = waits (wait 1_000) ∷ waits (wait 1_001) ∷ []; paper = waits 1_000 ∷ waits 0 ∷ [] }
+    -- W2 "draw 4,294,967,295 gives 619"
+    ∷ record { rules = waits (wait 4_294_967_295) ∷ []; paper = waits 619 ∷ [] }
+    -- W3 "latest 4,294,967,290, reading 4: step 10, time 4,294,967,300"
+    ∷ record { rules = seenClock (clockOf 4_294_967_290 4) ∷ []; paper = widens (pos 10) 4_294_967_300 ∷ [] }
+    -- W4 "latest 5, reading 3: step -2, refusal 4"
+    ∷ record { rules = seenClock (clockOf 5 3) ∷ []; paper = stays (negsuc 1) 4 ∷ [] }
+    -- W5 "latest 0, reading 2,147,483,648: refusal 4"
+    ∷ record { rules = seenClock (clockOf 0 2_147_483_648) ∷ []; paper = stays (negsuc 2_147_483_647) 4 ∷ [] }
+    -- W6 "policy 2, conflicts at 20,000 and 29,999: defend, lost"
+    ∷ record {
+      rules = answers (port 2 (Settled Never) 0 Never) (map conflictAt (20_000 ∷ 29_999 ∷ []));
+      paper = kind Defend ∷ kind Lost ∷ [];
+    }
+    -- W7 "the same at 20,000 and 30,000: defend twice"
+    ∷ record {
+      rules = answers (port 2 (Settled Never) 0 Never) (map conflictAt (20_000 ∷ 30_000 ∷ []));
+      paper = kind Defend ∷ kind Defend ∷ [];
+    }
+    -- W8 "policy 3 at 20,000, 29,999, 35,000, 45,000: defend, kept, kept, defend"
+    ∷ record {
+      rules = answers (port 3 (Settled Never) 0 Never) (map conflictAt (20_000 ∷ 29_999 ∷ 35_000 ∷ 45_000 ∷ []));
+      paper = kind Defend ∷ kind Kept ∷ kind Kept ∷ kind Defend ∷ [];
+    }
+    -- W9 "count 10, request at 100,000: an ask at 159,999 is 12, at 160,000 taken"
+    ∷ record {
+      rules = answers (record {
+        hardware = ours;
+        latest = at 100_000;
+        request = At (at 100_000);
+        conflicts = 10;
+        records = freeRecord ∷ freeRecord ∷ freeRecord ∷ freeRecord ∷ [];
+      }) (ask (at 159_999) ward 1 0 ∷ ask (at 160_000) ward 1 0 ∷ []);
+      paper = refusal 12 ∷ kind Taken ∷ [];
+    }
+    -- W10 "our own echoed probe: none"
+    ∷ record {
+      rules = answers (port 2 (Probing 1 (at 11_000)) 0 Never) (packet (at 10_000) (frameBytes (probe ours ward)) (replicate 28 0) ∷ []);
+      paper = kind Nothing ∷ [];
+    }
+    -- W11 "another's probe for a settled address: none"
+    ∷ record {
+      rules = answers (port 2 (Settled Never) 0 Never) (packet (at 10_000) (frameBytes (probe another ward)) (replicate 28 0) ∷ []);
+      paper = kind Nothing ∷ [];
+    }
+    -- W12 "addresses 223.255.255.255 allowed, 224.0.0.0 refused with 8"
+    ∷ record {
+      rules = answers (port 2 (Settled Never) 0 Never)
+          (ask (at 10_000) (record { 0 = 0xe0000000 }) 1 0 ∷ ask (at 10_000) (record { 0 = 0xdfffffff }) 1 0 ∷ []);
+      paper = refusal 8 ∷ kind Taken ∷ [];
+    }
+    ∷ []
+
+-- The one claim: each case is as the paper says.
+abbrev pub BenchCases : Type 0
+BenchCases = map (λ (c : Case). c .rules) cases ≡ map (λ (c : Case). c .paper) cases
