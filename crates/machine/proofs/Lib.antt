@@ -1,5 +1,6 @@
 -- What follows from the definitions.
 pub mod SlotLaws
+pub mod DeadlineLaws
 pub mod Windows
 pub mod ClaimLaws
 pub mod Stories

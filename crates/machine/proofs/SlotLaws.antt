@@ -5,7 +5,7 @@ use mathlib.Core.Bool.{Bool, true, false, cond, _&&_, _||_, true≢false, false�
 use mathlib.Core.List.{List, [], _∷_}
 use mathlib.Core.Option.{Option, none, some}
 use mathlib.Core.Logic.{_⊎_, inl, inr}
-use native.Mathlib.Nat.{le-of-suc-le-suc, not-suc-le-zero, suc-add, add-suc}
+use native.Mathlib.Nat.{not-le-of-lt}
 use native.Mathlib.Omega.{arith}
 use lib.ListN.{length, getD, set}
 use lib.Seq.{getD-set-same, getD-set-other}
@@ -53,6 +53,24 @@ module _ (test : Record → Bool) where
       let w = found 0 records slot e in
       let q : w .0 ≡ slot = omega arith in
       rw (← q) (w .2, w .3)
+
+  -- And it is the lowest: the test fails of each one below.
+  below : (n : ℕ) (records : List Record) (slot k : ℕ) → lowestFrom n test records ≡ some slot → n + k < slot →
+      test (recordAt records k) ≡ false
+  unfolding lowestFrom
+  below n [] slot k e h = absurd (none≢some e)
+  below n (r ∷ records) slot k e h = go (below (suc n) records slot) (test r) refl e k h
+    where
+      go : ((k : ℕ) → lowestFrom (suc n) test records ≡ some slot → suc n + k < slot → test (recordAt records k) ≡ false) →
+          (b : Bool) → test r ≡ b → cond b (some n) (lowestFrom (suc n) test records) ≡ some slot →
+          (k : ℕ) → n + k < slot → test (recordAt (r ∷ records) k) ≡ false
+      go later true t e k h = absurd (not-le-of-lt h (let q : n ≡ slot = cc in omega arith))
+      go later false t e zero h = t
+      go later false t e (suc k) h = later k e (omega arith)
+
+  pub lowest-below : (records : List Record) (slot other : ℕ) → lowest test records ≡ some slot → other < slot →
+      test (recordAt records other) ≡ false
+  lowest-below records slot other e h = below 0 records slot other e (omega arith)
 
   -- Where there is none, the test fails of each slot, also past the end if it fails of a free record.
   pub none-fails : (n : ℕ) (records : List Record) (slot : ℕ) → test freeRecord ≡ false → lowestFrom n test records ≡ none →

@@ -28,29 +28,13 @@ use Rattle.machine.specs.Deadlines.{deadlineOf, isDeadline, hasDeadline,
 use Rattle.machine.specs.Calls.{tick, Service, serviceAt, service, delay, servedAs, serve, tickOutcome}
 use Rattle.machine.specs.Refusals.{tickRefusal}
 use Rattle.machine.specs.Claims.{Mark, Claim, probed, announced, hasFrame, ticked, marked, markedLatest, claimsAfter, conflicts, conflictCount}
-use Rattle.machine.proofs.SlotLaws.{none≢some, lowest-holds}
+use Rattle.machine.proofs.SlotLaws.{none≢some}
+use Rattle.machine.proofs.DeadlineLaws.{Due, due-slot}
 use Rattle.machine.proofs.Acceptance.{Admitted, tick-accepted, sound, sound-at, allowed-number, probe-reads, announcement-reads}
 use Rattle.machine.proofs.ClaimLaws.{on, on-marked, on-marked-other}
 use Rattle.machine.proofs.Stories.{Probed, probe-sent, first-announced, second-announced}
 use Rattle.machine.proofs.Links.{Story, Agrees, Link, Here, link-elsewhere, link-goes-on}
 use Rattle.machine.proofs.Invariant.{Linked, LinkedAfter, by-address, holds-own, holds-no-other, linked-here, count-marked}
-
--- A due slot has a deadline not later than the time.
-pub record Due (time : Time) (records : List Record) (slot : ℕ) : Type 0 where
-  pub deadline : ℕ
-  pub has : hasDeadline deadline (recordAt records slot) ≡ true
-  pub late : deadline ≤ time .0
-  pub room : slot < length records
-
-due-slot : (time : Time) (records : List Record) (slot : ℕ) (o : Option ℕ) → dueAt time records o ≡ some slot → Due time records slot
-due-slot time records slot none e = absurd (none≢some e)
-due-slot time records slot (some d) e = go (leb d (time .0)) refl e
-  where
-    go : (b : Bool) → leb d (time .0) ≡ b → cond b (lowest (hasDeadline d) records) none ≡ some slot → Due time records slot
-    go true late e =
-        let w = lowest-holds (hasDeadline d) records slot e in
-        record { deadline = d; has = w .0; late = leb-true d (time .0) late; room = w .1 }
-    go false late e = absurd (none≢some e)
 
 -- What serving a stage that is due sends and leaves.
 record Served (own : HardwareAddress) (address : Ipv4Address) (policy : ℕ) (t : Time) (marks : List Mark) (served : Service) : Type 0 where
@@ -100,13 +84,13 @@ module _ (own : HardwareAddress) (address : Ipv4Address) (policy : ℕ) (t : Tim
         taken = taken;
       }
 
-  served-stage : (stage : Stage) (deadline : ℕ) → isDeadline deadline (deadlineOf stage) ≡ true → deadline ≤ t .0 → Story policy stage marks →
+  served-stage : (stage : Stage) (deadline : ℕ) → deadlineOf stage ≡ some deadline → deadline ≤ t .0 → Story policy stage marks →
       Served own address policy t marks (serviceAt own address t draw stage)
-  served-stage Free deadline has late story = absurd (false≢true has)
+  served-stage Free deadline has late story = absurd (none≢some has)
   served-stage (Probing sent d) deadline has late story = go (ltb sent (rfc5227 .probeNum)) refl
     where
       past : d .0 ≤ t .0
-      past = let same = eqb-true (d .0) deadline has in omega arith
+      past = let same : d .0 ≡ deadline = cc in omega arith
 
       go : (b : Bool) → ltb sent (rfc5227 .probeNum) ≡ b → Served own address policy t marks (serviceAt own address t draw (Probing sent d))
       go true e = rw e (served-probe sent d past (ltb-true sent (rfc5227 .probeNum) e) story)
@@ -118,7 +102,7 @@ module _ (own : HardwareAddress) (address : Ipv4Address) (policy : ℕ) (t : Tim
           (first-announced policy (d .0) t marks (subst (λ (n : ℕ). Probed n (d .0) marks) three story) past))
   served-stage (Announced d conflict) deadline has late story =
       served-announcement Announce (Settled conflict) refl refl (second-announced policy conflict t marks story)
-  served-stage (Settled conflict) deadline has late story = absurd (false≢true has)
+  served-stage (Settled conflict) deadline has late story = absurd (none≢some has)
 
 module _ (own : HardwareAddress) (s : Interface) (claims : List Claim) (asks : List ℕ) (linked : Linked own s claims asks)
     (time : Time) (draw : ℕ) (out : List ℕ) (admission : Admitted s time) where
@@ -149,8 +133,8 @@ module _ (own : HardwareAddress) (s : Interface) (claims : List Claim) (asks : L
     unfolding r
     held = go (recordAt (s .records) slot .stage) (due .has)
       where
-        go : (stage : Stage) → isDeadline (due .deadline) (deadlineOf stage) ≡ true → isFreeStage stage ≡ false
-        go Free e = absurd (false≢true e)
+        go : (stage : Stage) → deadlineOf stage ≡ some (due .deadline) → isFreeStage stage ≡ false
+        go Free e = absurd (none≢some e)
         go (Probing sent d) e = refl
         go (Announced d conflict) e = refl
         go (Settled conflict) e = refl
@@ -217,7 +201,7 @@ module _ (own : HardwareAddress) (s : Interface) (claims : List Claim) (asks : L
 pub tick-step : (own : HardwareAddress) (s : Interface) (claims : List Claim) (asks : List ℕ) → Linked own s claims asks →
     (time : Time) (draw : ℕ) (out : List ℕ) → tickRefusal s time (length out) ≡ none →
     LinkedAfter own claims asks (tick time draw out) (tickOutcome s time draw)
-unfolding tickOutcome dueSlot r
+unfolding tickOutcome r
 tick-step own s claims asks linked time draw out e = go (dueSlot time (s .records)) refl
   where
     admission : Admitted s time
@@ -227,7 +211,7 @@ tick-step own s claims asks linked time draw out e = go (dueSlot time (s .record
         LinkedAfter own claims asks (tick time draw out) (serve s time draw o)
     go none d = tick-nothing own s claims asks linked time draw out admission
     go (some slot) d =
-        let due = due-slot time (s .records) slot (smallestDeadline (s .records)) d in
+        let due = due-slot time (s .records) slot d in
         let address = recordAt (s .records) slot .address in
         let w = linked-here address (s .records) (on address claims) slot
         (holds-own (recordAt (s .records) slot) (held own s claims asks linked time draw out admission slot due)) (linked .links address) in
