@@ -7,7 +7,7 @@ use mathlib.Core.Option.{Option, none, some}
 use native.Mathlib.Omega.{arith}
 use lib.Dec.{leb, ltb, eqb}
 use lib.ListN.{length}
-use borrow.Author.Tests.{lt-ltb, ltb-true, ltb-false, leb-true, not-true, not-false, eqb-false}
+use borrow.Author.Tests.{ltb-false, leb-true, le-leb, not-false}
 use Rattle.rules.specs.Times.{lastTime}
 use Rattle.rules.specs.Addresses.{isHardware}
 use Rattle.rules.specs.Answers.{_if_else_}
@@ -15,6 +15,8 @@ use Rattle.rules.specs.Frame.{probe, announcement, isWritable, framePut, frameO
 use Rattle.rules.specs.declared.Ipv4Address.{Ipv4Address}
 use Rattle.rules.specs.declared.HardwareAddress.{HardwareAddress}
 use Rattle.rules.specs.declared.Time.{Time}
+use Rattle.rules.specs.declared.Moment.{Moment}
+use Rattle.rules.specs.declared.Moment.the-variants.{Never, At}
 use Rattle.rules.specs.declared.Record.{Record}
 use Rattle.rules.specs.declared.Interface.{Interface}
 use Rattle.rules.proofs.BytesLaws.{and-both}
@@ -80,6 +82,11 @@ sound s e =
       noneTwice = six .1;
     }
 
+-- What is past stays past.
+pub past-later : (latest t : Time) (m : Moment) → latest .0 ≤ t .0 → isPast latest m ≡ true → isPast t m ≡ true
+past-later latest t Never h past = refl
+past-later latest t (At seen) h past = let le = leb-true (seen .0) (latest .0) past in le-leb (seen .0) (t .0) (omega arith)
+
 -- A held record of a sound state.
 pub record SoundRecord (latest : Time) (r : Record) : Type 0 where
   pub soundStage : isSoundStage latest (r .stage) ≡ true
@@ -94,7 +101,7 @@ sound-record latest r e held =
     let one = and-both (isSoundStage latest (r .stage)) (isAllowed (r .address)) (two .0) in
     record { soundStage = one .0; allowed = one .1; known = two .1 }
 
-free-sound : (latest : Time) → isSoundRecord latest freeRecord ≡ true
+pub free-sound : (latest : Time) → isSoundRecord latest freeRecord ≡ true
 unfolding isSoundRecord
 free-sound latest = refl
 
@@ -137,6 +144,7 @@ module _ (own : HardwareAddress) (address : Ipv4Address) (owned : isOwnHardware 
 pub record AskAccepted (s : Interface) (time : Time) (address : Ipv4Address) (policy : ℕ) : Type 0 where
   pub admission : Admitted s time
   pub allowed : isAllowed address ≡ true
+  pub known : isPolicy policy ≡ true
   pub notHeld : isHeld address (s .records) ≡ false
   pub room : isNone (lowest isFree (s .records)) ≡ false
   pub inTime : isTooSoon s time ≡ false
@@ -158,6 +166,7 @@ ask-accepted s time address policy e =
     record {
       admission = w .0;
       allowed = not-false (isAllowed address) (a .0);
+      known = not-false (isPolicy policy) (b .0);
       notHeld = c .0;
       room = d .0;
       inTime = f .0;

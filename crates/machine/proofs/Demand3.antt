@@ -66,6 +66,10 @@ call-step own s claims asks linked (tick time draw out) old e = tick-step own s 
 call-step own s claims asks linked (packet time bytes out) old e = packet-step own s claims asks linked time bytes out e
 call-step own s claims asks linked (drop time slot) old e = drop-step own s claims asks linked time slot e
 
+pub not-fresh : (b : Bool) → (b && true) ≡ false → b ≡ false
+not-fresh true e = e
+not-fresh false e = refl
+
 module _ (own : HardwareAddress) (before : Interface) (claims : List Claim) (asks : List ℕ) (linked : Linked own before claims asks) (call : Call) where
   -- A step with this refusal, or none.
   step-by : (refusal : Option ℕ) → refusalOf before call ≡ refusal → (report : Report Accepted) (state : Interface) (out : List ℕ) →
@@ -77,10 +81,6 @@ module _ (own : HardwareAddress) (before : Interface) (claims : List Claim) (ask
   step-by (some n) e report state out answered kept written old = rw (answered, kept) linked
   step-by none e report state out answered kept written old =
       rw (answered, kept, written) (call-step own before claims asks linked call (not-fresh (isFresh call) (rw answered at old)) e)
-    where
-      not-fresh : (b : Bool) → (b && true) ≡ false → b ≡ false
-      not-fresh true e = e
-      not-fresh false e = refl
 
   step-linked : (answer : Answer) (state : Interface) (out : List ℕ) → Promised before call answer state out →
       (isFresh call && isAccepted (answerReport answer)) ≡ false →
@@ -90,7 +90,7 @@ module _ (own : HardwareAddress) (before : Interface) (claims : List Claim) (ask
   step-linked answer state out promised old =
       step-by (refusalOf before call) refl (answerReport answer) state out (promised .answered) (promised .kept) (promised .written) old
 
-history-linked : (own : HardwareAddress) (start : Interface) → Linked own start [] [] → (steps : List Step) → History start steps →
+pub history-linked : (own : HardwareAddress) (start : Interface) → Linked own start [] [] → (steps : List Step) → History start steps →
     Linked own (stateAfter start steps) (claimsOf own (events steps)) (asksAfterTenth own (events steps))
 unfolding History claimsOf asksAfterTenth
 history-linked own start begun [] h = begun
@@ -241,7 +241,7 @@ module _ (own : HardwareAddress) (start : Interface) where
       go false e w = refused-counts step earlier (acceptedOnly earlier) w h e
 
 -- An accepted fresh begins with no claim.
-fresh-linked : (own : HardwareAddress) → Linked own (freshOutcome own .state) [] []
+pub fresh-linked : (own : HardwareAddress) → Linked own (freshOutcome own .state) [] []
 unfolding freshOutcome on any conflictCount
 fresh-linked own =
     record {
@@ -255,20 +255,20 @@ fresh-linked own =
       lastAsk = tt;
     }
 
-fresh-state : (own : HardwareAddress) (before start : Interface) (answer : Answer) → Promised before (fresh own) answer start [] →
-    isAccepted (answerReport answer) ≡ true → start ≡ freshOutcome own .state
+pub fresh-accepted : (own : HardwareAddress) (before start : Interface) (answer : Answer) → Promised before (fresh own) answer start [] →
+    isAccepted (answerReport answer) ≡ true → (freshRefusal own ≡ none) × (start ≡ freshOutcome own .state)
 unfolding resultOf refusalOf outcomeOf
-fresh-state own before start answer promised taken = go (freshRefusal own) (promised .answered) (promised .kept)
+fresh-accepted own before start answer promised taken = go (freshRefusal own) refl (promised .answered) (promised .kept)
   where
-    go : (refusal : Option ℕ) → answerReport answer ≡ resultAs refusal before [] (freshOutcome own) .report →
-        start ≡ resultAs refusal before [] (freshOutcome own) .state → start ≡ freshOutcome own .state
-    go none answered kept = kept
-    go (some n) answered kept = absurd (false≢true (rw answered at taken))
+    go : (refusal : Option ℕ) → freshRefusal own ≡ refusal → answerReport answer ≡ resultAs refusal before [] (freshOutcome own) .report →
+        start ≡ resultAs refusal before [] (freshOutcome own) .state → (freshRefusal own ≡ none) × (start ≡ freshOutcome own .state)
+    go none e answered kept = (e, kept)
+    go (some n) e answered kept = absurd (false≢true (rw answered at taken))
 
 -- The one claim.
 pub demand3 : Theorem
 demand3 own before start answer promised taken steps history =
-    let same = fresh-state own before start answer promised taken in
+    let same = fresh-accepted own before start answer promised taken .1 in
     let begun : Linked own start [] [] = rw same (fresh-linked own) in
     let linked = history-linked own start begun steps history in
     let claims = claimsOf own (events steps) in

@@ -14,4 +14,5 @@ pub mod DropStep
 pub mod TickStep
 pub mod PacketStep
 pub mod Demand3
+pub mod AlwaysSound
 pub mod Bench

@@ -33,7 +33,7 @@ use Rattle.machine.specs.Refusals.{packetRefusal}
 use Rattle.machine.specs.Claims.{Mark, Claim, disputed, defended, isOpen, isOn, isOpenAfter, isConflictWith, struck, marked, markedLatest, defences, conflicts, conflictCount, claimsAfter}
 use Rattle.machine.specs.Demand3.{Each}
 use Rattle.machine.proofs.SlotLaws.{lowest-holds, none-fails}
-use Rattle.machine.proofs.Acceptance.{Admitted, packet-accepted, sound, sound-at, announcement-reads}
+use Rattle.machine.proofs.Acceptance.{Admitted, past-later, packet-accepted, sound, sound-at, announcement-reads}
 use Rattle.machine.proofs.ClaimLaws.{on, on-each, each-map, on-marked, on-marked-other}
 use Rattle.machine.proofs.Stories.{untouched, Bounded, InUse, Behind, conflict-borne, defence-sent, bounded-disputed, ended-before-use, ended-by-surrender, lost-surrenders, defended-bears, kept-bears}
 use Rattle.machine.proofs.Links.{Story, Agrees, Closed, Away, Here, Link, link-elsewhere, link-goes-on, link-over}
@@ -47,10 +47,6 @@ isLose Defend = false
 isLose Keep = false
 
 -- What each response to a conflict leaves of a claim.
-past-later : (latest t : Time) (conflict : Moment) → latest .0 ≤ t .0 → isPast latest conflict ≡ true → isPast t conflict ≡ true
-past-later latest t Never h past = refl
-past-later latest t (At last) h past = let le = leb-true (last .0) (latest .0) past in le-leb (last .0) (t .0) (omega arith)
-
 module _ (policy : ℕ) (latest t : Time) (later : latest .0 ≤ t .0) (marks : List Mark) where
   lost-story : (stage : Stage) → responseAt policy t stage ≡ Lose → Story policy stage marks → isOpenAfter policy (disputed t ∷ marks) ≡ false
   lost-story Free e story = absurd story

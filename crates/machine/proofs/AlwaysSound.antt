@@ -1,0 +1,299 @@
+-- From an accepted fresh every state is sound, so no call of a history is refused with 1.
+use Prim.Native.Nat.{ℕ, zero, suc, _+_, _<_, _≤_, min}
+use mathlib.Core.Path.{_≡_, refl, sym, ap, _∙_, subst}
+use mathlib.Core.Bool.{Bool, true, false, not, cond, _&&_, _||_, true≢false, false≢true}
+use mathlib.Core.List.{List, [], _∷_}
+use mathlib.Core.Option.{Option, none, some}
+use mathlib.Core.Logic.{_⊎_, inl, inr}
+use native.Mathlib.Nat.{suc-inj, suc-ne-zero}
+use native.Mathlib.Omega.{arith}
+use lib.Dec.{leb, ltb, eqb}
+use lib.ListN.{length, set}
+use borrow.Author.Tests.{leb-true, le-leb, ltb-true, not-false}
+use Rattle.rules.specs.Times.{lastTime}
+use Rattle.rules.specs.Answers.{Report, Accepted, answerReport}
+use Rattle.rules.specs.Frame.{frameOf}
+use Rattle.rules.specs.declared.Frame.{Frame}
+use Rattle.rules.specs.declared.Ipv4Address.{Ipv4Address}
+use Rattle.rules.specs.declared.HardwareAddress.{HardwareAddress}
+use Rattle.rules.specs.declared.Time.{Time}
+use Rattle.rules.specs.declared.Moment.{Moment}
+use Rattle.rules.specs.declared.Moment.the-variants.{Never, At}
+use Rattle.rules.specs.declared.Stage.{Stage}
+use Rattle.rules.specs.declared.Stage.the-variants.{Free, Probing, Announced, Settled}
+use Rattle.rules.specs.declared.Record.{Record}
+use Rattle.rules.specs.declared.Interface.{Interface}
+use Rattle.rules.specs.declared.Answer.{Answer}
+use Rattle.rules.specs.declared.Response.{Response}
+use Rattle.rules.specs.declared.Response.the-variants.{Lose, Defend, Keep}
+use Rattle.rules.proofs.BytesLaws.{and-both}
+use Rattle.machine.specs.Timing.{rfc5227, wait, gap, after}
+use Rattle.machine.specs.Slots.{freeRecord, recordAt, putAt, any, all, lowest}
+use Rattle.machine.specs.Interface.{isOwnHardware, isAllowed, isPolicy, isFree, isFreeStage, holds, isHeld, isPast, isNear, isSoundStage, isSoundRecord, holdsNoneTwice, isSound}
+use Rattle.machine.specs.Conflicts.{isConflict, countUp, seenAt, recordAfter, response}
+use Rattle.machine.specs.Calls.{Call, fresh, ask, tick, packet, drop, Outcome, delay, serviceAt, service, serve, meet, respond, freshOutcome, askOutcome, tickOutcome, packetOutcome, dropOutcome}
+use Rattle.machine.specs.Deadlines.{dueSlot}
+use Rattle.machine.specs.Refusals.{freshRefusal}
+use Rattle.machine.specs.Machine.{refusalOf, outcomeOf, lent, resultAs, resultOf, Promised}
+use Rattle.machine.specs.Claims.{Claim, claimsOf, asksAfterTenth}
+use Rattle.machine.specs.Demand3.{Step, stateAfter, isAccepted, isFresh, isNextFresh, History, events}
+use Rattle.machine.proofs.SlotLaws.{any-slot, all-holds}
+use Rattle.machine.proofs.ClaimLaws.{on}
+use Rattle.machine.proofs.Links.{Away, Here, Link}
+use Rattle.machine.proofs.Invariant.{Linked, holds-own}
+use Rattle.machine.proofs.Demand3.{not-fresh, history-linked, fresh-linked, fresh-accepted}
+use Rattle.machine.proofs.Acceptance.{Admitted, Sound, sound, SoundRecord, sound-record, free-sound, past-later, row, ask-accepted, tick-accepted, packet-accepted, drop-accepted}
+
+-- What a sound state has, with each address in one slot only, makes it sound.
+held-once : (records : List Record) →
+    ((address : Ipv4Address) (slot other : ℕ) → holds address (recordAt records slot) ≡ true → holds address (recordAt records other) ≡ true → slot ≡ other) →
+    holdsNoneTwice records ≡ true
+unfolding holdsNoneTwice
+held-once [] once = refl
+held-once (r ∷ records) once =
+    rw (held-once records (λ address slot other h k. suc-inj (once address (suc slot) (suc other) h k))) (go (isFree r) refl (isHeld (r .address) records) refl)
+  where
+    go : (f : Bool) → isFree r ≡ f → (h : Bool) → isHeld (r .address) records ≡ h → ((f || not h) && true) ≡ true
+    go true f h e = refl
+    go false f true e =
+        let w = any-slot (holds (r .address)) records e in
+        absurd (suc-ne-zero (w .0) (sym (once (r .address) zero (suc (w .0)) (holds-own r f) (w .1))))
+    go false f false e = refl
+
+pub record Steady (s : Interface) : Type 0 where
+  pub own : isOwnHardware (s .hardware) ≡ true
+  pub inRange : s .latest .0 ≤ lastTime
+  pub requested : isPast (s .latest) (s .request) ≡ true
+  pub eachSound : all (isSoundRecord (s .latest)) (s .records) ≡ true
+
+link-once : (address : Ipv4Address) (records : List Record) (claims : List Claim) → Link address records claims → (slot other : ℕ) →
+    holds address (recordAt records slot) ≡ true → holds address (recordAt records other) ≡ true → slot ≡ other
+link-once address records claims (inl away) slot other h k = absurd (false≢true (sym (away .nowhere slot) ∙ h))
+link-once address records claims (inr here) slot other h k = here .onlyHere slot h ∙ sym (here .onlyHere other k)
+
+linked-sound : (own : HardwareAddress) (s : Interface) (claims : List Claim) (asks : List ℕ) → Linked own s claims asks → Steady s → isSound s ≡ true
+unfolding isSound
+linked-sound own s claims asks linked steady =
+    let count = linked .count in
+    rw (
+      steady .own,
+      le-leb (s .latest .0) lastTime (steady .inRange),
+      le-leb (s .conflicts) (rfc5227 .maxConflicts) (omega arith),
+      steady .requested,
+      steady .eachSound,
+      held-once (s .records) (λ address. link-once address (s .records) (on address claims) (linked .links address)),
+    )
+
+-- Another record in one slot, and a later time.
+all-set : (test : Record → Bool) (records : List Record) (slot : ℕ) (new : Record) → test new ≡ true → all test records ≡ true →
+    all test (set records slot new) ≡ true
+unfolding all
+all-set test [] slot new t e = refl
+all-set test (r ∷ records) zero new t e = rw (t, and-both (test r) (all test records) e .1)
+all-set test (r ∷ records) (suc slot) new t e =
+    let w = and-both (test r) (all test records) e in rw (w .0, all-set test records slot new t (w .1))
+
+near-later : (latest t deadline : Time) → latest .0 ≤ t .0 → isNear latest deadline ≡ true → isNear t deadline ≡ true
+near-later latest t deadline h near =
+    let le = leb-true (deadline .0) (latest .0 + 2_000) near in le-leb (deadline .0) (t .0 + 2_000) (omega arith)
+
+free-record : (t : Time) (r : Record) → isFree r ≡ true → isSoundRecord t r ≡ true
+unfolding isSoundRecord
+free-record t r free = rw free
+
+taken-record : (t : Time) (r : Record) → isSoundStage t (r .stage) ≡ true → isAllowed (r .address) ≡ true → isPolicy (r .policy) ≡ true →
+    isSoundRecord t r ≡ true
+unfolding isSoundRecord
+taken-record t r stage allowed known = rw (stage, allowed, known) (go (isFree r))
+  where
+    go : (b : Bool) → (b || true) ≡ true
+    go true = refl
+    go false = refl
+
+module _ (latest t : Time) (h : latest .0 ≤ t .0) where
+  stage-later : (stage : Stage) → isSoundStage latest stage ≡ true → isSoundStage t stage ≡ true
+  unfolding isSoundStage
+  stage-later Free e = refl
+  stage-later (Probing sent deadline) e =
+      let w = and-both (leb sent (rfc5227 .probeNum)) (isNear latest deadline) e in
+      rw (w .0, near-later latest t deadline h (w .1))
+  stage-later (Announced deadline conflict) e =
+      let w = and-both (isNear latest deadline) (isPast latest conflict) e in
+      rw (near-later latest t deadline h (w .0), past-later latest t conflict h (w .1))
+  stage-later (Settled conflict) e = past-later latest t conflict h e
+
+  record-later : (r : Record) → isSoundRecord latest r ≡ true → isSoundRecord t r ≡ true
+  record-later r e = go (isFree r) refl
+    where
+      go : (b : Bool) → isFree r ≡ b → isSoundRecord t r ≡ true
+      go true free = free-record t r free
+      go false held =
+          let w = sound-record latest r e held in
+          taken-record t r (stage-later (r .stage) (w .soundStage)) (w .allowed) (w .known)
+
+  all-later : (records : List Record) → all (isSoundRecord latest) records ≡ true → all (isSoundRecord t) records ≡ true
+  unfolding all
+  all-later [] e = refl
+  all-later (r ∷ records) e =
+      let w = and-both (isSoundRecord latest r) (all (isSoundRecord latest) records) e in
+      rw (record-later r (w .0), all-later records (w .1))
+
+-- What each call leaves in its slot is sound.
+due-near : (t : Time) (ms : ℕ) → ms ≤ 2_000 → isNear t (after t ms) ≡ true
+due-near t ms h = le-leb (t .0 + ms) (t .0 + 2_000) (omega arith)
+
+delay-near : (t : Time) (sent draw : ℕ) → isNear t (after t (delay sent draw)) ≡ true
+delay-near t sent draw = due-near t (delay sent draw) (go (ltb sent (rfc5227 .probeNum)))
+  where
+    go : (b : Bool) → cond b (gap draw) (rfc5227 .announceWait) ≤ 2_000
+    go true = omega arith
+    go false = omega arith
+
+served-sound : (own : HardwareAddress) (address : Ipv4Address) (t : Time) (draw : ℕ) (stage : Stage) → isSoundStage t stage ≡ true →
+    isSoundStage t (serviceAt own address t draw stage .stage) ≡ true
+unfolding isSoundStage
+served-sound own address t draw Free e = refl
+served-sound own address t draw (Probing sent deadline) e = go (ltb sent (rfc5227 .probeNum)) refl
+  where
+    go : (b : Bool) → ltb sent (rfc5227 .probeNum) ≡ b → isSoundStage t (serviceAt own address t draw (Probing sent deadline) .stage) ≡ true
+    go true more =
+        rw (more, le-leb (suc sent) (rfc5227 .probeNum) (ltb-true sent (rfc5227 .probeNum) more)) (delay-near t (suc sent) draw)
+    go false more = rw (more, due-near t (rfc5227 .announceInterval) (omega arith))
+served-sound own address t draw (Announced deadline conflict) e = and-both (isNear t deadline) (isPast t conflict) e .1
+served-sound own address t draw (Settled conflict) e = e
+
+seen-sound : (t : Time) (stage : Stage) → isSoundStage t stage ≡ true → isSoundStage t (seenAt t stage) ≡ true
+unfolding isSoundStage
+seen-sound t Free e = refl
+seen-sound t (Probing sent deadline) e = e
+seen-sound t (Announced deadline conflict) e =
+    rw (and-both (isNear t deadline) (isPast t conflict) e .0, le-leb (t .0) (t .0) (omega arith))
+seen-sound t (Settled conflict) e = le-leb (t .0) (t .0) (omega arith)
+
+-- A held record whose stage alone changes, soundly, stays sound; a free one is sound whatever it holds.
+restaged-sound : (t : Time) (r : Record) (stage : Stage) → isSoundRecord t r ≡ true → (isSoundStage t (r .stage) ≡ true → isSoundStage t stage ≡ true) →
+    (isFree r ≡ true → isFreeStage stage ≡ true) → isSoundRecord t (record { address = r .address; policy = r .policy; stage = stage }) ≡ true
+restaged-sound t r stage e changes stays = go (isFree r) refl
+  where
+    go : (b : Bool) → isFree r ≡ b → isSoundRecord t (record { address = r .address; policy = r .policy; stage = stage }) ≡ true
+    go true free = free-record t (record { address = r .address; policy = r .policy; stage = stage }) (stays free)
+    go false held =
+        let w = sound-record t r e held in
+        taken-record t (record { address = r .address; policy = r .policy; stage = stage }) (changes (w .soundStage)) (w .allowed) (w .known)
+
+service-free : (own : HardwareAddress) (address : Ipv4Address) (t : Time) (draw : ℕ) (stage : Stage) → isFreeStage stage ≡ true →
+    isFreeStage (serviceAt own address t draw stage .stage) ≡ true
+service-free own address t draw Free e = refl
+service-free own address t draw (Probing sent deadline) e = absurd (false≢true e)
+service-free own address t draw (Announced deadline conflict) e = absurd (false≢true e)
+service-free own address t draw (Settled conflict) e = absurd (false≢true e)
+
+seen-free : (t : Time) (stage : Stage) → isFreeStage stage ≡ true → isFreeStage (seenAt t stage) ≡ true
+seen-free t Free e = refl
+seen-free t (Probing sent deadline) e = absurd (false≢true e)
+seen-free t (Announced deadline conflict) e = absurd (false≢true e)
+seen-free t (Settled conflict) e = absurd (false≢true e)
+
+module _ (s : Interface) (t : Time) (admission : Admitted s t) where
+  records-later : all (isSoundRecord t) (s .records) ≡ true
+  records-later = all-later (s .latest) t (admission .notBefore) (s .records) (sound s (admission .sound) .eachSound)
+
+  record-sound : (slot : ℕ) → isSoundRecord t (recordAt (s .records) slot) ≡ true
+  record-sound slot = all-holds (isSoundRecord t) (s .records) slot (free-sound t) records-later
+
+  -- The state after an accepted call, with these records.
+  steady-with : (request : Moment) (count : ℕ) (records : List Record) → isPast t request ≡ true → all (isSoundRecord t) records ≡ true →
+      Steady (record { hardware = s .hardware; latest = t; request = request; conflicts = count; records = records })
+  steady-with request count records past each =
+      record { own = sound s (admission .sound) .own; inRange = admission .inRange; requested = past; eachSound = each }
+
+  request-past : isPast t (s .request) ≡ true
+  request-past = past-later (s .latest) t (s .request) (admission .notBefore) (sound s (admission .sound) .requested)
+
+  steady-set : (count slot : ℕ) (new : Record) → isSoundRecord t new ≡ true →
+      Steady (record { hardware = s .hardware; latest = t; request = s .request; conflicts = count; records = set (s .records) slot new })
+  steady-set count slot new e =
+      steady-with (s .request) count (set (s .records) slot new) request-past (all-set (isSoundRecord t) (s .records) slot new e records-later)
+
+  steady-same : Steady (record { hardware = s .hardware; latest = t; request = s .request; conflicts = s .conflicts; records = s .records })
+  steady-same = steady-with (s .request) (s .conflicts) (s .records) request-past records-later
+
+  tick-steady : (draw : ℕ) (o : Option ℕ) → Steady (serve s t draw o .state)
+  unfolding service
+  tick-steady draw none = steady-same
+  tick-steady draw (some slot) =
+      let r = recordAt (s .records) slot in
+      steady-set (s .conflicts) slot (record { address = r .address; policy = r .policy; stage = serviceAt (s .hardware) (r .address) t draw (r .stage) .stage })
+      (restaged-sound t r (serviceAt (s .hardware) (r .address) t draw (r .stage) .stage) (record-sound slot)
+      (served-sound (s .hardware) (r .address) t draw (r .stage)) (service-free (s .hardware) (r .address) t draw (r .stage)))
+
+  after-sound : (chosen : Response) (r : Record) → isSoundRecord t r ≡ true → isSoundRecord t (recordAfter chosen t r) ≡ true
+  after-sound Lose r e = free-sound t
+  after-sound Defend r e = restaged-sound t r (seenAt t (r .stage)) e (seen-sound t (r .stage)) (seen-free t (r .stage))
+  after-sound Keep r e = restaged-sound t r (seenAt t (r .stage)) e (seen-sound t (r .stage)) (seen-free t (r .stage))
+
+  packet-steady : (f : Frame) (o : Option ℕ) → Steady (meet s t f o .state)
+  packet-steady f none = steady-same
+  packet-steady f (some slot) =
+      let r = recordAt (s .records) slot in
+      steady-set (countUp (s .conflicts)) slot (recordAfter (response t r) t r) (after-sound (response t r) r (record-sound slot))
+
+  ask-steady : (address : Ipv4Address) (policy draw : ℕ) (o : Option ℕ) → isAllowed address ≡ true → isPolicy policy ≡ true →
+      all (isSoundRecord t) (putAt (s .records) o (record { address = address; policy = policy; stage = Probing 0 (after t (wait draw)) })) ≡ true
+  unfolding isSoundStage
+  ask-steady address policy draw none allowed known = records-later
+  ask-steady address policy draw (some slot) allowed known =
+      all-set (isSoundRecord t) (s .records) slot (record { address = address; policy = policy; stage = Probing 0 (after t (wait draw)) })
+      (taken-record t (record { address = address; policy = policy; stage = Probing 0 (after t (wait draw)) })
+      (rw (le-leb 0 (rfc5227 .probeNum) (omega arith)) (due-near t (wait draw) (omega arith))) allowed known)
+      records-later
+
+call-steady : (s : Interface) (call : Call) → isFresh call ≡ false → refusalOf s call ≡ none → Steady (outcomeOf s call .state)
+unfolding refusalOf outcomeOf askOutcome tickOutcome packetOutcome dropOutcome
+call-steady s (fresh hardware) old e = absurd (true≢false old)
+call-steady s (ask t address policy draw) old e =
+    let w = ask-accepted s t address policy e in
+    let o = lowest isFree (s .records) in
+    steady-with s t (w .admission) (At t) (s .conflicts)
+    (putAt (s .records) o (record { address = address; policy = policy; stage = Probing 0 (after t (wait draw)) }))
+    (le-leb (t .0) (t .0) (omega arith)) (ask-steady s t (w .admission) address policy draw o (w .allowed) (w .known))
+call-steady s (tick t draw out) old e = tick-steady s t (tick-accepted s t (length out) e) draw (dueSlot t (s .records))
+call-steady s (packet t bytes out) old e =
+    packet-steady s t (packet-accepted s t bytes (length out) e) (frameOf bytes) (lowest (isConflict (s .hardware) (frameOf bytes)) (s .records))
+call-steady s (drop t slot) old e =
+    steady-set s t (drop-accepted s t slot e .0) (s .conflicts) slot freeRecord (free-sound t)
+
+fresh-steady : (own : HardwareAddress) → freshRefusal own ≡ none → Steady (freshOutcome own .state)
+unfolding freshOutcome freshRefusal all isSoundRecord
+fresh-steady own e =
+    record { own = not-false (isOwnHardware own) (row 2 (not (isOwnHardware own)) none e .0); inRange = omega arith; requested = refl; eachSound = refl }
+
+-- An accepted fresh, and every step after it, leave a sound state.
+step-sound : (before : Interface) (step : Step) → Promised before (step .call) (step .answer) (step .state) (step .out) →
+    isNextFresh step ≡ false → Steady before → Steady (step .state)
+unfolding resultOf
+step-sound before step promised old steady =
+    go (refusalOf before (step .call)) refl (answerReport (step .answer)) (promised .answered) (promised .kept) old
+  where
+    go : (refusal : Option ℕ) → refusalOf before (step .call) ≡ refusal → (report : Report Accepted) →
+        report ≡ resultAs refusal before (lent (step .call)) (outcomeOf before (step .call)) .report →
+        step .state ≡ resultAs refusal before (lent (step .call)) (outcomeOf before (step .call)) .state →
+        (isFresh (step .call) && isAccepted report) ≡ false → Steady (step .state)
+    go none e report answered kept old =
+        subst Steady (sym kept) (call-steady before (step .call) (not-fresh (isFresh (step .call)) (rw answered at old)) e)
+    go (some n) e report answered kept old = subst Steady (sym kept) steady
+
+history-steady : (start : Interface) → Steady start → (steps : List Step) → History start steps → Steady (stateAfter start steps)
+unfolding History
+history-steady start begun [] h = begun
+history-steady start begun (step ∷ earlier) h =
+    step-sound (stateAfter start earlier) step (h .0) (h .1) (history-steady start begun earlier (h .2))
+
+pub always-sound : (own : HardwareAddress) (before start : Interface) (answer : Answer) → Promised before (fresh own) answer start [] →
+    isAccepted (answerReport answer) ≡ true → (steps : List Step) → History start steps → isSound (stateAfter start steps) ≡ true
+always-sound own before start answer promised taken steps history =
+    let facts = fresh-accepted own before start answer promised taken in
+    let linked : Linked own start [] [] = rw (facts .1) (fresh-linked own) in
+    let steady : Steady start = rw (facts .1) (fresh-steady own (facts .0)) in
+    linked-sound own (stateAfter start steps) (claimsOf own (events steps)) (asksAfterTenth own (events steps))
+    (history-linked own start linked steps history) (history-steady start steady steps history)
