@@ -29,7 +29,7 @@ use Rattle.rules.specs.declared.Response.the-variants.{Lose, Defend, Keep}
 use Rattle.rules.proofs.BytesLaws.{and-both}
 use Rattle.machine.specs.Timing.{rfc5227, wait, gap, after}
 use Rattle.machine.specs.Slots.{freeRecord, recordAt, putAt, any, all, lowest}
-use Rattle.machine.specs.Interface.{isOwnHardware, isAllowed, isPolicy, isFree, isFreeStage, holds, isHeld, isPast, isNear, isSoundStage, isSoundRecord, holdsNoneTwice, isSound}
+use Rattle.machine.specs.Interface.{isOwnHardware, isAllowed, isPolicy, isFree, isFreeStage, holds, isHeld, isPast, longestDelay, isNear, isSoundStage, isSoundRecord, holdsNoneTwice, isSound}
 use Rattle.machine.specs.Conflicts.{isConflict, countUp, seenAt, recordAfter, response}
 use Rattle.machine.specs.Calls.{Call, fresh, ask, tick, packet, drop, Outcome, delay, serviceAt, service, serve, meet, respond, freshOutcome, askOutcome, tickOutcome, packetOutcome, dropOutcome}
 use Rattle.machine.specs.Deadlines.{dueSlot}
@@ -95,7 +95,7 @@ all-set test (r ∷ records) (suc slot) new t e =
 
 near-later : (latest t deadline : Time) → latest .0 ≤ t .0 → isNear latest deadline ≡ true → isNear t deadline ≡ true
 near-later latest t deadline h near =
-    let le = leb-true (deadline .0) (latest .0 + 2_000) near in le-leb (deadline .0) (t .0 + 2_000) (omega arith)
+    let le = leb-true (deadline .0) (latest .0 + longestDelay) near in le-leb (deadline .0) (t .0 + longestDelay) (omega arith)
 
 free-record : (t : Time) (r : Record) → isFree r ≡ true → isSoundRecord t r ≡ true
 unfolding isSoundRecord
@@ -139,13 +139,13 @@ module _ (latest t : Time) (h : latest .0 ≤ t .0) where
       rw (record-later r (w .0), all-later records (w .1))
 
 -- What each call leaves in its slot is sound.
-due-near : (t : Time) (ms : ℕ) → ms ≤ 2_000 → isNear t (after t ms) ≡ true
-due-near t ms h = le-leb (t .0 + ms) (t .0 + 2_000) (omega arith)
+due-near : (t : Time) (ms : ℕ) → ms ≤ longestDelay → isNear t (after t ms) ≡ true
+due-near t ms h = le-leb (t .0 + ms) (t .0 + longestDelay) (omega arith)
 
 delay-near : (t : Time) (sent draw : ℕ) → isNear t (after t (delay sent draw)) ≡ true
 delay-near t sent draw = due-near t (delay sent draw) (go (ltb sent (rfc5227 .probeNum)))
   where
-    go : (b : Bool) → cond b (gap draw) (rfc5227 .announceWait) ≤ 2_000
+    go : (b : Bool) → cond b (gap draw) (rfc5227 .announceWait) ≤ longestDelay
     go true = omega arith
     go false = omega arith
 

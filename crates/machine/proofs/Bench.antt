@@ -1,16 +1,15 @@
--- W1 to W12, computed.
+-- W1 to W12 and the whole case, computed.
 use mathlib.Core.Path.{refl}
-use Rattle.rules.specs.Answers.{kindWord}
 use Rattle.rules.specs.Frame.{frameBytes, probe, announcement, frameOf, isKnownFrame, readRefusal, framePut}
 use Rattle.rules.specs.Clock.{clockStep, clockRefusal, clockOf}
 use Rattle.machine.specs.Slots.{any, all, lowestFrom}
 use Rattle.machine.specs.Interface.{isOwnHardware, isAllowed, isSoundStage, isSoundRecord, holdsNoneTwice, isSound}
-use Rattle.machine.specs.Deadlines.{smallestDeadline}
+use Rattle.machine.specs.Deadlines.{smallestDeadline, dueSlot}
 use Rattle.machine.specs.Conflicts.{response}
-use Rattle.machine.specs.Calls.{askOutcome, packetOutcome}
-use Rattle.machine.specs.Refusals.{stateAndTime, askRefusal, packetRefusal}
+use Rattle.machine.specs.Calls.{service, freshOutcome, askOutcome, tickOutcome, packetOutcome}
+use Rattle.machine.specs.Refusals.{stateAndTime, freshRefusal, askRefusal, tickRefusal, packetRefusal}
 use Rattle.machine.specs.Machine.{refusalOf, outcomeOf, resultOf}
-use Rattle.machine.specs.Bench.{answers, BenchCases}
+use Rattle.machine.specs.Bench.{answers, BenchCases, lines, WholeCase}
 
 pub bench-cases : BenchCases
 unfolding
@@ -18,3 +17,10 @@ unfolding
     any all lowestFrom isOwnHardware isAllowed isSoundStage isSoundRecord holdsNoneTwice isSound
     smallestDeadline response askOutcome packetOutcome stateAndTime askRefusal packetRefusal refusalOf outcomeOf resultOf answers
 bench-cases = refl
+
+pub whole-case : WholeCase
+unfolding
+    frameBytes probe announcement framePut any all lowestFrom isOwnHardware isAllowed isSoundStage isSoundRecord holdsNoneTwice isSound
+    smallestDeadline dueSlot service freshOutcome askOutcome tickOutcome stateAndTime freshRefusal askRefusal tickRefusal
+    refusalOf outcomeOf resultOf lines
+whole-case = refl

@@ -25,7 +25,7 @@ use Rattle.machine.specs.Interface.{holds, isUsableStage}
 use Rattle.machine.specs.Calls.{Call, fresh, ask, tick, packet, drop, freshOutcome}
 use Rattle.machine.specs.Refusals.{freshRefusal}
 use Rattle.machine.specs.Machine.{Result, refusalOf, outcomeOf, lent, handedOut, acceptedAs, resultAs, resultOf, Promised}
-use Rattle.machine.specs.Claims.{Event, Mark, probed, announced, defended, disputed, dropped, Claim, isInUse, isOpen, claimsBy, claimsOf, latestOn, asksBy, asksAfterTenth, conflictCount, defences}
+use Rattle.machine.specs.Claims.{Event, Mark, probed, announced, defended, conflicted, dropped, Claim, isInUse, isOpen, claimsBy, claimsOf, latestOn, asksBy, asksAfterTenth, conflictCount, defences}
 use Rattle.machine.specs.Demand3.{Step, stateAfter, isAccepted, isFresh, isNextFresh, History, eventOf, events, stateLeft, plainMachine, resultIn, isUsableIn, isUsable, Each, WentThrough, LatestWentThrough, SendsFew, DefendsSeldom, acceptedOnly, CountForNothing, Demand3, Theorem}
 use Rattle.machine.proofs.SlotLaws.{any-fails, any-holds, any-slot}
 use Rattle.machine.proofs.Windows.{spaced-few}
@@ -120,7 +120,7 @@ announced-in-use [] before t = refl
 announced-in-use (probed u ∷ since) before t = announced-in-use since before t
 announced-in-use (announced u ∷ since) before t = refl
 announced-in-use (defended u ∷ since) before t = announced-in-use since before t
-announced-in-use (disputed u ∷ since) before t = announced-in-use since before t
+announced-in-use (conflicted u ∷ since) before t = announced-in-use since before t
 announced-in-use (dropped u ∷ since) before t = announced-in-use since before t
 
 in-use : (c : Claim) → WentThrough c → isInUse (c .marks) ≡ true
@@ -276,7 +276,7 @@ demand3 own before start answer promised taken steps history =
     let bounded = all-bounded own (stateAfter start steps) claims asks linked in
     record {
       begunAsTheMachine = same;
-      asTheMachine = as-the-machine start steps history;
+      asTheMachine = rw (← same) (as-the-machine start steps history);
       usableExactlyIf = usable-exactly-if own (stateAfter start steps) claims asks linked;
       fewFrames = each-map (λ c. Bounded (c .marks)) SendsFew (λ c b. (b .fewProbes, b .fewAnnouncements)) claims bounded;
       fewDefences = each-map (λ c. Bounded (c .marks)) DefendsSeldom

@@ -30,12 +30,12 @@ use Rattle.machine.specs.Interface.{isFree, isFreeStage, holds, isPast, 
 use Rattle.machine.specs.Conflicts.{isConflict, countUp, byPolicy, responseAt, response, seenAt, recordAfter}
 use Rattle.machine.specs.Calls.{packet, respond, meet, packetOutcome}
 use Rattle.machine.specs.Refusals.{packetRefusal}
-use Rattle.machine.specs.Claims.{Mark, Claim, disputed, defended, isOpen, isOn, isOpenAfter, isConflictWith, struck, marked, markedLatest, defences, conflicts, conflictCount, claimsAfter}
+use Rattle.machine.specs.Claims.{Mark, Claim, conflicted, defended, isOpen, isOn, isOpenAfter, isConflictWith, struck, marked, markedLatest, defences, conflicts, conflictCount, claimsAfter}
 use Rattle.machine.specs.Demand3.{Each}
 use Rattle.machine.proofs.SlotLaws.{lowest-holds, none-fails}
 use Rattle.machine.proofs.Acceptance.{Admitted, past-later, packet-accepted, sound, sound-at, announcement-reads}
 use Rattle.machine.proofs.ClaimLaws.{on, on-each, each-map, on-marked, on-marked-other}
-use Rattle.machine.proofs.Stories.{untouched, Bounded, InUse, Behind, conflict-borne, defence-sent, bounded-disputed, ended-before-use, ended-by-surrender, lost-surrenders, defended-bears, kept-bears}
+use Rattle.machine.proofs.Stories.{untouched, Bounded, InUse, Behind, conflict-borne, defence-sent, bounded-conflicted, ended-before-use, ended-by-surrender, lost-surrenders, defended-bears, kept-bears}
 use Rattle.machine.proofs.Links.{Story, Agrees, Closed, Away, Here, Link, link-elsewhere, link-goes-on, link-over}
 use Rattle.machine.proofs.Invariant.{LastAsk, agrees-open, Linked, LinkedAfter, last-ask-counts, by-address, holds-own, holds-no-other, held-address, linked-here, agrees-bounded, count-marked}
 use Rattle.machine.proofs.ConflictLaws.{agrees-conflict, conflict-held, one-concerned}
@@ -48,19 +48,19 @@ isLose Keep = false
 
 -- What each response to a conflict leaves of a claim.
 module _ (policy : ℕ) (latest t : Time) (later : latest .0 ≤ t .0) (marks : List Mark) where
-  lost-story : (stage : Stage) → responseAt policy t stage ≡ Lose → Story policy stage marks → isOpenAfter policy (disputed t ∷ marks) ≡ false
+  lost-story : (stage : Stage) → responseAt policy t stage ≡ Lose → Story policy stage marks → isOpenAfter policy (conflicted t ∷ marks) ≡ false
   lost-story Free e story = absurd story
   lost-story (Probing sent deadline) e story = ended-before-use policy t marks (untouched policy marks (story .only) .notInUse)
   lost-story (Announced deadline conflict) e story = ended-by-surrender policy t marks (lost-surrenders policy conflict 1 t marks story e)
   lost-story (Settled conflict) e story = ended-by-surrender policy t marks (lost-surrenders policy conflict 2 t marks story e)
 
   kept-in-use : (conflict : Moment) (sent : ℕ) → InUse policy conflict sent marks → byPolicy policy t conflict ≡ Keep →
-      isPast latest conflict ≡ true → InUse policy (At t) sent (disputed t ∷ marks)
+      isPast latest conflict ≡ true → InUse policy (At t) sent (conflicted t ∷ marks)
   kept-in-use conflict sent w e past =
       conflict-borne policy conflict sent t marks w (past-later latest t conflict later past) (kept-bears policy conflict sent t marks w e)
 
   kept-story : (stage : Stage) → responseAt policy t stage ≡ Keep → isSoundStage latest stage ≡ true → Story policy stage marks →
-      Story policy (seenAt t stage) (disputed t ∷ marks)
+      Story policy (seenAt t stage) (conflicted t ∷ marks)
   unfolding isSoundStage
   kept-story Free e sound story = absurd story
   kept-story (Probing sent deadline) e sound story = absurd (true≢false (ap isLose e))
@@ -69,14 +69,14 @@ module _ (policy : ℕ) (latest t : Time) (later : latest .0 ≤ t .0) (marks : 
   kept-story (Settled conflict) e sound story = kept-in-use conflict 2 story e sound
 
   defended-in-use : (conflict : Moment) (sent : ℕ) → InUse policy conflict sent marks → byPolicy policy t conflict ≡ Defend →
-      isPast latest conflict ≡ true → InUse policy (At t) sent (defended t ∷ (disputed t ∷ marks))
+      isPast latest conflict ≡ true → InUse policy (At t) sent (defended t ∷ (conflicted t ∷ marks))
   defended-in-use conflict sent w e past =
       let facts = defended-bears policy conflict sent t marks w e in
       defence-sent policy conflict sent t marks
       (conflict-borne policy conflict sent t marks w (past-later latest t conflict later past) (facts .0)) (w .behind) (facts .1)
 
   defended-story : (stage : Stage) → responseAt policy t stage ≡ Defend → isSoundStage latest stage ≡ true → Story policy stage marks →
-      Story policy (seenAt t stage) (defended t ∷ (disputed t ∷ marks))
+      Story policy (seenAt t stage) (defended t ∷ (conflicted t ∷ marks))
   unfolding isSoundStage
   defended-story Free e sound story = absurd story
   defended-story (Probing sent deadline) e sound story = absurd (true≢false (ap isLose e))
@@ -105,7 +105,7 @@ module _ (own : HardwareAddress) (t : Time) (f : Frame) where
   count-struck (c ∷ earlier) = go (isHit c) (count-struck earlier)
     where
       go : (b : Bool) → conflictCount (map (struck own t f) earlier) ≡ hits earlier + conflictCount earlier →
-          length (conflicts (cond b (marked (disputed t) c) c .marks)) + conflictCount (map (struck own t f) earlier)
+          length (conflicts (cond b (marked (conflicted t) c) c .marks)) + conflictCount (map (struck own t f) earlier)
           ≡ cond b 1 0 + hits earlier + (length (conflicts (c .marks)) + conflictCount earlier)
       go true later = omega arith
       go false later = omega arith
@@ -160,9 +160,9 @@ module _ (own : HardwareAddress) (s : Interface) (claims : List Claim) (asks : L
 
     untouched-claims : map (struck own t f) claims ≡ claims
     untouched-claims =
-        same-each (isConflictWith own f) (disputed t) claims
+        same-each (isConflictWith own f) (conflicted t) claims
         (on-each (λ c. struck own t f c ≡ c) claims
-        (λ address. unconcerned-each (isConflictWith own f) (disputed t) address (s .records) (on address claims)
+        (λ address. unconcerned-each (isConflictWith own f) (conflicted t) address (s .records) (on address claims)
         (linked .links address) (spared address)))
 
     packet-nothing : LinkedAfter own claims asks (packet t bytes out) (meet s t f none)
@@ -213,9 +213,9 @@ module _ (own : HardwareAddress) (s : Interface) (claims : List Claim) (asks : L
 
     on-other : (other : Ipv4Address) → (other .0 ≡ r .address .0 → ⊥) → on other (map (struck own t f) claims) ≡ on other claims
     on-other other apart =
-        on-changed (isConflictWith own f) (disputed t) other claims
-        ∙ same-each (isConflictWith own f) (disputed t) (on other claims)
-        (unconcerned-each (isConflictWith own f) (disputed t) other (s .records) (on other claims) (linked .links other) (spared-other other apart))
+        on-changed (isConflictWith own f) (conflicted t) other claims
+        ∙ same-each (isConflictWith own f) (conflicted t) (on other claims)
+        (unconcerned-each (isConflictWith own f) (conflicted t) other (s .records) (on other claims) (linked .links other) (spared-other other apart))
 
     links-other : (new : Record) → ((other : Ipv4Address) → (other .0 ≡ r .address .0 → ⊥) → holds other new ≡ false) →
         (other : Ipv4Address) → (other .0 ≡ r .address .0 → ⊥) →
@@ -250,10 +250,10 @@ module _ (own : HardwareAddress) (s : Interface) (claims : List Claim) (asks : L
       unfolding r
       hit = agreed-conflict slot (here .latest) agreed ∙ conflicting
 
-      on-mine : on (r .address) (map (struck own t f) claims) ≡ marked (disputed t) (here .latest) ∷ here .older
+      on-mine : on (r .address) (map (struck own t f) claims) ≡ marked (conflicted t) (here .latest) ∷ here .older
       on-mine =
-          on-changed (isConflictWith own f) (disputed t) (r .address) claims
-          ∙ concerned-marked (isConflictWith own f) (disputed t) (r .address) (s .records) (on (r .address) claims) here hit
+          on-changed (isConflictWith own f) (conflicted t) (r .address) claims
+          ∙ concerned-marked (isConflictWith own f) (conflicted t) (r .address) (s .records) (on (r .address) claims) here hit
 
       one-hit : hits own t f claims ≡ 1
       unfolding hits
@@ -291,11 +291,11 @@ module _ (own : HardwareAddress) (s : Interface) (claims : List Claim) (asks : L
             links = by-address (λ (a : Ipv4Address). Link a (set (s .records) slot freeRecord) (on a (map (struck own t f) claims))) (r .address)
                 (rw on-mine
                 (inl (link-over (s .records) slot freeRecord room (r .address) (on (r .address) claims) here mine
-                (marked (disputed t) (here .latest)) refl
+                (marked (conflicted t) (here .latest)) refl
                 (record {
                   ended = rw (agreed .samePolicy)
                       (lost-story (r .policy) (s .latest) t (admission .notBefore) (here .latest .marks) (r .stage) e (agreed .story));
-                  bounded = bounded-disputed t (here .latest .marks) bounded;
+                  bounded = bounded-conflicted t (here .latest .marks) bounded;
                 }))))
                 (links-other freeRecord (λ other apart. refl));
             count = count-after;
@@ -319,7 +319,7 @@ module _ (own : HardwareAddress) (s : Interface) (claims : List Claim) (asks : L
             links = by-address (λ (a : Ipv4Address). Link a (set (s .records) slot seen) (on a (map (struck own t f) claims))) (r .address)
                 (rw on-mine
                 (inr (link-goes-on (s .records) slot seen room (r .address) (on (r .address) claims) here mine
-                (marked (disputed t) (here .latest)) (holds-own seen seen-taken)
+                (marked (conflicted t) (here .latest)) (holds-own seen seen-taken)
                 (record {
                   sameAddress = agreed .sameAddress;
                   sameSlot = agreed .sameSlot;
@@ -355,7 +355,7 @@ module _ (own : HardwareAddress) (s : Interface) (claims : List Claim) (asks : L
       defend-here e =
           rw (on-marked (r .address) (defended t) (map (struck own t f) claims), on-mine)
           (inr (link-goes-on (s .records) slot seen room (r .address) (on (r .address) claims) here mine
-          (marked (defended t) (marked (disputed t) (here .latest))) (holds-own seen seen-taken)
+          (marked (defended t) (marked (conflicted t) (here .latest))) (holds-own seen seen-taken)
           (record {
             sameAddress = agreed .sameAddress;
             sameSlot = agreed .sameSlot;

@@ -16,7 +16,7 @@ use Rattle.machine.specs.Timing.{rfc5227, gap, isWithin}
 use Rattle.machine.specs.Interface.{isPast}
 use Rattle.machine.specs.Conflicts.{byPolicy}
 use Rattle.machine.specs.Calls.{delay}
-use Rattle.machine.specs.Claims.{Mark, probed, announced, defended, disputed, dropped, isInUse, lastConflict, isSurrender, isOpenAfter, probes, announcements, defences, conflicts}
+use Rattle.machine.specs.Claims.{Mark, probed, announced, defended, conflicted, dropped, isInUse, lastConflict, isSurrender, isOpenAfter, probes, announcements, defences, conflicts}
 use Rattle.machine.specs.Demand3.{Spaced, IsAfter}
 
 -- One more time, the latest.
@@ -30,7 +30,7 @@ OnlyProbes [] = Unit {0}
 OnlyProbes (probed t ∷ earlier) = OnlyProbes earlier
 OnlyProbes (announced t ∷ earlier) = ⊥
 OnlyProbes (defended t ∷ earlier) = ⊥
-OnlyProbes (disputed t ∷ earlier) = ⊥
+OnlyProbes (conflicted t ∷ earlier) = ⊥
 OnlyProbes (dropped t ∷ earlier) = ⊥
 
 pub record Untouched (policy : ℕ) (marks : List Mark) : Type 0 where
@@ -57,7 +57,7 @@ untouched policy (probed t ∷ earlier) only =
     }
 untouched policy (announced t ∷ earlier) only = absurd only
 untouched policy (defended t ∷ earlier) only = absurd only
-untouched policy (disputed t ∷ earlier) only = absurd only
+untouched policy (conflicted t ∷ earlier) only = absurd only
 untouched policy (dropped t ∷ earlier) only = absurd only
 
 -- What demand 3 asks of every claim's frames.
@@ -190,14 +190,14 @@ behind-later (d ∷ earlier) Never t past behind = absurd behind
 behind-later (d ∷ earlier) (At last) t past behind = let h = leb-true (last .0) (t .0) past in omega arith
 
 pub conflict-borne : (policy : ℕ) (conflict : Moment) (sent : ℕ) (t : Time) (marks : List Mark) → InUse policy conflict sent marks →
-    isPast t conflict ≡ true → isSurrender policy marks t ≡ false → InUse policy (At t) sent (disputed t ∷ marks)
+    isPast t conflict ≡ true → isSurrender policy marks t ≡ false → InUse policy (At t) sent (conflicted t ∷ marks)
 unfolding probes announcements defences isInUse isOpenAfter lastConflict
 conflict-borne policy conflict sent t marks w past borne =
     record {
-      since = disputed t ∷ w .since;
+      since = conflicted t ∷ w .since;
       announcedAt = w .announcedAt;
       before = w .before;
-      split = ap {B = List Mark} (λ ms. disputed t ∷ ms) (w .split);
+      split = ap {B = List Mark} (λ ms. conflicted t ∷ ms) (w .split);
       through = w .through;
       allProbes = w .allProbes;
       number = w .number;
@@ -216,9 +216,9 @@ defence-after (d ∷ earlier) (At last) t quiet behind =
     let h = ltb-false (t .0) (last .0 + rfc5227 .defendInterval) quiet in omega arith
 
 -- A defence of the conflict just seen, the one before it being long ago or none.
-pub defence-sent : (policy : ℕ) (conflict : Moment) (sent : ℕ) (t : Time) (marks : List Mark) → InUse policy (At t) sent (disputed t ∷ marks) →
+pub defence-sent : (policy : ℕ) (conflict : Moment) (sent : ℕ) (t : Time) (marks : List Mark) → InUse policy (At t) sent (conflicted t ∷ marks) →
     Behind (defences marks) conflict → isWithin (rfc5227 .defendInterval) t conflict ≡ false →
-    InUse policy (At t) sent (defended t ∷ (disputed t ∷ marks))
+    InUse policy (At t) sent (defended t ∷ (conflicted t ∷ marks))
 unfolding probes announcements defences isInUse isOpenAfter lastConflict
 defence-sent policy conflict sent t marks w behind quiet =
     record {
@@ -244,9 +244,9 @@ in-use-bounded policy conflict sent marks few w =
     record { fewProbes = omega arith; fewAnnouncements = omega arith; defencesApart = w .apart }
 
 -- A conflict or a drop sends nothing, and a claim that it ends is ended.
-pub bounded-disputed : (t : Time) (marks : List Mark) → Bounded marks → Bounded (disputed t ∷ marks)
+pub bounded-conflicted : (t : Time) (marks : List Mark) → Bounded marks → Bounded (conflicted t ∷ marks)
 unfolding probes announcements defences
-bounded-disputed t marks w =
+bounded-conflicted t marks w =
     record { fewProbes = w .fewProbes; fewAnnouncements = w .fewAnnouncements; defencesApart = w .defencesApart }
 
 pub bounded-dropped : (t : Time) (marks : List Mark) → Bounded marks → Bounded (dropped t ∷ marks)
@@ -254,7 +254,7 @@ unfolding probes announcements defences
 bounded-dropped t marks w =
     record { fewProbes = w .fewProbes; fewAnnouncements = w .fewAnnouncements; defencesApart = w .defencesApart }
 
-pub ended-before-use : (policy : ℕ) (t : Time) (marks : List Mark) → isInUse marks ≡ false → isOpenAfter policy (disputed t ∷ marks) ≡ false
+pub ended-before-use : (policy : ℕ) (t : Time) (marks : List Mark) → isInUse marks ≡ false → isOpenAfter policy (conflicted t ∷ marks) ≡ false
 unfolding isOpenAfter
 ended-before-use policy t marks e = rw e (go (isOpenAfter policy marks))
   where
@@ -263,7 +263,7 @@ ended-before-use policy t marks e = rw e (go (isOpenAfter policy marks))
     go false = refl
 
 pub ended-by-surrender : (policy : ℕ) (t : Time) (marks : List Mark) → isSurrender policy marks t ≡ true →
-    isOpenAfter policy (disputed t ∷ marks) ≡ false
+    isOpenAfter policy (conflicted t ∷ marks) ≡ false
 unfolding isOpenAfter
 ended-by-surrender policy t marks e = rw e (go (isOpenAfter policy marks) (isInUse marks))
   where

@@ -1,4 +1,4 @@
--- Document 01, "Bench cases": W1 to W12, one table under one claim.
+-- Document 01, "Bench cases": W1 to W12, one table under one claim; and the whole case of "Replay lines".
 use Prim.Native.Nat.{ℕ}
 use mathlib.Core.Path.{_≡_, refl}
 use mathlib.Core.List.{List, [], _∷_, map}
@@ -17,10 +17,10 @@ use Rattle.rules.specs.declared.Stage.{Stage}
 use Rattle.rules.specs.declared.Stage.the-variants.{Probing, Settled}
 use Rattle.rules.specs.declared.Interface.{Interface}
 use Rattle.rules.specs.declared.Kind.{Kind}
-use Rattle.rules.specs.declared.Kind.the-variants.{Taken, Nothing, Defend, Lost, Kept}
+use Rattle.rules.specs.declared.Kind.the-variants.{Fresh, Taken, Nothing, Probe, Announce, Defend, Lost, Kept}
 use Rattle.machine.specs.Timing.{wait}
 use Rattle.machine.specs.Slots.{freeRecord}
-use Rattle.machine.specs.Calls.{Call, ask, packet}
+use Rattle.machine.specs.Calls.{Call, fresh, ask, tick, packet}
 use Rattle.machine.specs.Machine.{resultOf}
 
 -- What a case looks at: a wait, the clock's step with the time or the refusal, the kind of an answer, or a refusal.
@@ -137,3 +137,49 @@ cases =
 -- The one claim: each case is as the paper says.
 abbrev pub BenchCases : Type 0
 BenchCases = map (λ (c : Case). c .rules) cases ≡ map (λ (c : Case). c .paper) cases
+
+-- The whole case, but for its line that is not in the form: kind, slot, next deadline and frame of each answer.
+pub record Line : Type 0 where
+  pub report : Report Accepted
+  pub frame : List ℕ
+
+unfoldable pub lines : Interface → List Call → List Line
+lines s [] = []
+lines s (call ∷ later) = record { report = resultOf s call .report; frame = resultOf s call .out } ∷ lines (resultOf s call .state) later
+
+abbrev pub line : Kind → Option ℕ → Option ℕ → List ℕ → Line
+line did slot next frame = record { report = accepted (record { kind = did; slot = slot; next = next }); frame = frame }
+
+-- "Before the first fresh is accepted the state is all zeros."
+abbrev pub zeros : Interface
+zeros =
+    record {
+      hardware = record { 0 = 0 };
+      latest = at 0;
+      request = Never;
+      conflicts = 0;
+      records = freeRecord ∷ freeRecord ∷ freeRecord ∷ freeRecord ∷ [];
+    }
+
+abbrev pub blank : List ℕ
+blank = replicate 28 0
+
+abbrev pub WholeCase : Type 0
+WholeCase =
+    lines zeros (
+    fresh ours
+    ∷ ask (at 100) ward 2 500
+    ∷ tick (at 599) 0 blank
+    ∷ tick (at 600) 0 blank
+    ∷ tick (at 1_600) 1_000 blank
+    ∷ tick (at 3_600) 5 blank
+    ∷ tick (at 5_600) 0 blank
+    ∷ [])
+    ≡ line Fresh none none []
+    ∷ line Taken (some 0) (some 600) []
+    ∷ line Nothing none (some 600) blank
+    ∷ line Probe (some 0) (some 1_600) (frameBytes (probe ours ward))
+    ∷ line Probe (some 0) (some 3_600) (frameBytes (probe ours ward))
+    ∷ line Probe (some 0) (some 5_600) (frameBytes (probe ours ward))
+    ∷ line Announce (some 0) (some 7_600) (frameBytes (announcement ours ward))
+    ∷ []

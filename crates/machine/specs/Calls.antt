@@ -50,7 +50,7 @@ renewed s time records =
       records = records;
     }
 
--- "With nothing due, only the latest time changes."
+-- "Only the latest time changes": a tick with nothing due, and a packet that is no conflict.
 abbrev pub nothing : Interface → Time → Outcome
 nothing s time = record { kind = Nothing; slot = none; state = renewed s time (s .records); frame = none }
 
@@ -96,6 +96,7 @@ pub record Service : Type 0 where
   pub stage : Stage
   pub frame : Option Frame
 
+-- The delay after a probe, by how many are sent then, this one included.
 abbrev pub delay : ℕ → ℕ → ℕ
 delay sent draw = cond (ltb sent (rfc5227 .probeNum)) (gap draw) (rfc5227 .announceWait)
 
@@ -162,7 +163,8 @@ abbrev pub meet : Interface → Time → Frame → Option ℕ → Outcome
 meet s time f none = unconcerned s time f
 meet s time f (some slot) = respond s time slot (recordAt (s .records) slot) (response time (recordAt (s .records) slot))
 
--- Packet: "at most one record can be concerned" (proved as `one-concerned`), so the lowest is that one.
+-- Packet: "at most one record can be concerned" in a sound state (`one-concerned` in proofs/ConflictLaws.antt), so the lowest
+-- is that one.
 unfoldable pub packetOutcome : Interface → Time → List ℕ → Outcome
 packetOutcome s time bytes =
     meet s time (frameOf bytes) (lowest (isConflict (s .hardware) (frameOf bytes)) (s .records))

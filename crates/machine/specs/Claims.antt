@@ -31,7 +31,7 @@ pub data Mark : Type 0 where
   probed : Time → Mark
   announced : Time → Mark
   defended : Time → Mark
-  disputed : Time → Mark
+  conflicted : Time → Mark
   dropped : Time → Mark
 
 -- "An ask opens a claim on its address, with its policy, in the slot that it reports." Its marks, the latest first.
@@ -47,7 +47,7 @@ isInUse [] = false
 isInUse (probed t ∷ earlier) = isInUse earlier
 isInUse (announced t ∷ earlier) = true
 isInUse (defended t ∷ earlier) = isInUse earlier
-isInUse (disputed t ∷ earlier) = isInUse earlier
+isInUse (conflicted t ∷ earlier) = isInUse earlier
 isInUse (dropped t ∷ earlier) = isInUse earlier
 
 -- "This claim's previous conflict."
@@ -56,7 +56,7 @@ lastConflict [] = Never
 lastConflict (probed t ∷ earlier) = lastConflict earlier
 lastConflict (announced t ∷ earlier) = lastConflict earlier
 lastConflict (defended t ∷ earlier) = lastConflict earlier
-lastConflict (disputed t ∷ earlier) = At t
+lastConflict (conflicted t ∷ earlier) = At t
 lastConflict (dropped t ∷ earlier) = lastConflict earlier
 
 -- "In use it ends it under policy 1, and under policy 2 if this claim's previous conflict was less than 10,000 ms earlier:
@@ -71,7 +71,7 @@ isOpenAfter policy [] = true
 isOpenAfter policy (probed t ∷ earlier) = isOpenAfter policy earlier
 isOpenAfter policy (announced t ∷ earlier) = isOpenAfter policy earlier
 isOpenAfter policy (defended t ∷ earlier) = isOpenAfter policy earlier
-isOpenAfter policy (disputed t ∷ earlier) =
+isOpenAfter policy (conflicted t ∷ earlier) =
     isOpenAfter policy earlier && isInUse earlier && not (isSurrender policy earlier t)
 isOpenAfter policy (dropped t ∷ earlier) = false
 
@@ -90,17 +90,19 @@ isConflictWith own f c =
     && eqb (f .target .ip .0) (c .address .0)
     && not (isOurs own (f .sender .hardware)))
 
--- A claim with one more mark, and with the mark of a packet that is a conflict with it, or of a drop of its slot.
+-- A claim with one more mark.
 abbrev pub marked : Mark → Claim → Claim
 marked mark c = record { address = c .address; policy = c .policy; slot = c .slot; marks = mark ∷ c .marks }
 
+-- A claim after a packet: marked, where it is open and the packet is a conflict with it.
 abbrev pub struck : HardwareAddress → Time → Frame → Claim → Claim
-struck own t f c = cond (isOpen c && isConflictWith own f c) (marked (disputed t) c) c
+struck own t f c = cond (isOpen c && isConflictWith own f c) (marked (conflicted t) c) c
 
 abbrev pub isSlot : ℕ → Option ℕ → Bool
 isSlot slot none = false
 isSlot slot (some n) = eqb n slot
 
+-- A claim after a drop: marked, where it is open and in that slot.
 abbrev pub released : Time → ℕ → Claim → Claim
 released t slot c = cond (isOpen c && isSlot slot (c .slot)) (marked (dropped t) c) c
 
@@ -145,7 +147,8 @@ isDefence Dropped = false
 abbrev pub withDefence : Kind → Time → Frame → List Claim → List Claim
 withDefence kind t f claims = cond (isDefence kind) (markedLatest (f .target .ip) (defended t) claims) claims
 
--- The claims after an accepted call, and after a history, the latest first. An accepted fresh makes a new interface.
+-- The claims after an accepted call, and after a history, the latest first. An accepted fresh begins another history, so it
+-- stands in none (`History` in Demand3.antt).
 unfoldable pub claimsAfter : HardwareAddress → Call → Accepted → List ℕ → List Claim → List Claim
 claimsAfter own (fresh hardware) answer out claims = []
 claimsAfter own (ask t address policy draw) answer out claims =
@@ -175,7 +178,7 @@ probes [] = []
 probes (probed t ∷ earlier) = t .0 ∷ probes earlier
 probes (announced t ∷ earlier) = probes earlier
 probes (defended t ∷ earlier) = probes earlier
-probes (disputed t ∷ earlier) = probes earlier
+probes (conflicted t ∷ earlier) = probes earlier
 probes (dropped t ∷ earlier) = probes earlier
 
 unfoldable pub announcements : List Mark → List ℕ
@@ -183,7 +186,7 @@ announcements [] = []
 announcements (probed t ∷ earlier) = announcements earlier
 announcements (announced t ∷ earlier) = t .0 ∷ announcements earlier
 announcements (defended t ∷ earlier) = announcements earlier
-announcements (disputed t ∷ earlier) = announcements earlier
+announcements (conflicted t ∷ earlier) = announcements earlier
 announcements (dropped t ∷ earlier) = announcements earlier
 
 unfoldable pub defences : List Mark → List ℕ
@@ -191,7 +194,7 @@ defences [] = []
 defences (probed t ∷ earlier) = defences earlier
 defences (announced t ∷ earlier) = defences earlier
 defences (defended t ∷ earlier) = t .0 ∷ defences earlier
-defences (disputed t ∷ earlier) = defences earlier
+defences (conflicted t ∷ earlier) = defences earlier
 defences (dropped t ∷ earlier) = defences earlier
 
 unfoldable pub conflicts : List Mark → List ℕ
@@ -199,7 +202,7 @@ conflicts [] = []
 conflicts (probed t ∷ earlier) = conflicts earlier
 conflicts (announced t ∷ earlier) = conflicts earlier
 conflicts (defended t ∷ earlier) = conflicts earlier
-conflicts (disputed t ∷ earlier) = t .0 ∷ conflicts earlier
+conflicts (conflicted t ∷ earlier) = t .0 ∷ conflicts earlier
 conflicts (dropped t ∷ earlier) = conflicts earlier
 
 -- "The tenth conflict is counted over all claims": the conflicts of all claims, and the times of the asks that were accepted

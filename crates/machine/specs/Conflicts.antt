@@ -32,6 +32,7 @@ probesFor f address = eqb (f .operation) 1 && eqb (f .sender .ip .0) 0 && eqb (f
 -- - the record is probing and the sender IP is its address, whatever the sender hardware or operation; or
 -- - it's probing, operation 1, sender IP zero, target IP its address, sender hardware not ours; or
 -- - it's usable, sender IP its address, sender hardware not ours."
+-- "A deadline that has passed without a tick changes nothing here: the stage decides."
 abbrev pub isConflictAt : HardwareAddress → Frame → ℕ → Stage → Bool
 isConflictAt own f address Free = false
 isConflictAt own f address (Probing sent deadline) =

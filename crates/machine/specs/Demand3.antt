@@ -89,7 +89,7 @@ Spaced ms [] = Unit {0}
 Spaced ms (time ∷ []) = Unit {0}
 Spaced ms (time ∷ (before ∷ earlier)) = (before + ms ≤ time) × Spaced ms (before ∷ earlier)
 
--- A time at least so many ms after the latest of others.
+-- A time at least so many ms after the latest of others, if there are any.
 abbrev pub IsAfter : ℕ → List ℕ → ℕ → Type 0
 IsAfter ms [] time = Unit {0}
 IsAfter ms (latest ∷ earlier) time = latest + ms ≤ time
@@ -105,6 +105,7 @@ pub record WentThrough (c : Claim) : Type 0 where
   pub probesSpaced : Spaced (rfc5227 .probeMin) (probes before)
   pub announcedAfter : IsAfter (rfc5227 .announceWait) (probes before) (announcedAt .0)
   pub undisturbed : conflicts before ≡ []
+  -- Open: with no conflict before use, this says that there was no drop and no surrender.
   pub notGivenUp : isOpen c ≡ true
 
 -- The latest accepted ask on an address, if there was one, went through.
@@ -125,10 +126,11 @@ countFrom a b (time ∷ earlier) = cond (leb a time && leb time b) 1 0 + countFr
 abbrev pub AtMostOneEach : ℕ → List ℕ → Type 0
 AtMostOneEach ms times = (a b : ℕ) → a ≤ b → countFrom a b times ≤ (b - a) / ms + 1
 
--- "An accepted ask sends at most 3 probes and 2 claiming announcements", and its defences.
+-- "An accepted ask sends at most 3 probes and 2 claiming announcements."
 abbrev pub SendsFew : Claim → Type 0
 SendsFew c = (length (probes (c .marks)) ≤ rfc5227 .probeNum) × (length (announcements (c .marks)) ≤ rfc5227 .announceNum)
 
+-- "From any a to any b not before it, ends included, it sends at most (b - a) / 10,000 rounded down, plus 1, defences."
 abbrev pub DefendsSeldom : Claim → Type 0
 DefendsSeldom c = AtMostOneEach (rfc5227 .defendInterval) (defences (c .marks))
 
@@ -150,7 +152,7 @@ pub record Demand3 (own : HardwareAddress) (start : Interface) (steps : List Ste
   -- (a) At fresh the state, and at each call the refusal number or whole answer, the new state and every lent byte are the
   -- plain machine's.
   pub begunAsTheMachine : start ≡ freshOutcome own .state
-  pub asTheMachine : map resultIn steps ≡ plainMachine start (map (λ (step : Step). step .call) steps)
+  pub asTheMachine : map resultIn steps ≡ plainMachine (freshOutcome own .state) (map (λ (step : Step). step .call) steps)
   -- (b) An address is usable exactly if its latest accepted ask went through and was not given up since.
   pub usableExactlyIf : (address : Ipv4Address) →
       (isUsable address (stateAfter start steps) ≡ true) ↔ LatestWentThrough (latestOn address (claimsOf own (events steps)))

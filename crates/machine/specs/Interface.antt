@@ -65,9 +65,12 @@ abbrev pub isPast : Time → Moment → Bool
 isPast latest Never = true
 isPast latest (At time) = leb (time .0) (latest .0)
 
--- "Each deadline is at most the latest time plus 2,000."
+-- "Each deadline is at most the latest time plus 2,000": no delay is longer.
+abbrev pub longestDelay : ℕ
+longestDelay = 2_000
+
 abbrev pub isNear : Time → Time → Bool
-isNear latest deadline = leb (deadline .0) (latest .0 + 2_000)
+isNear latest deadline = leb (deadline .0) (latest .0 + longestDelay)
 
 -- What a sound state asks of one stage, "no record has more than 3 probes sent" included, and of one record.
 unfoldable pub isSoundStage : Time → Stage → Bool

@@ -30,7 +30,7 @@ frameBytes f =
     ++ bytesOf 6 (f .target .hardware .0)
     ++ bytesOf 4 (f .target .ip .0)
 
--- "A request of ours always begins with the eight bytes 00 01 08 00 06 04 00 01."
+-- "A request of ours always begins with the eight bytes 00 01 08 00 06 04 00 01" (`request-header` in proofs/FrameLaws.antt).
 abbrev pub requestHeader : List ℕ
 requestHeader = 0 ∷ 1 ∷ 8 ∷ 0 ∷ 6 ∷ 4 ∷ 0 ∷ 1 ∷ []
 

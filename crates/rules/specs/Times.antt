@@ -1,4 +1,4 @@
--- Document 01, "Times and counts that are fixed".
+-- Document 01's range of times.
 use Prim.Native.Nat.{ℕ}
 
 -- "Times run from 0 to 281,474,976,710,655."

@@ -9,7 +9,7 @@ pub struct Time(pub u64);
 
 pub const LAST_TIME: u64 = 281_474_976_710_655;
 
-// Section 1.1 of RFC 5227, in ms where they are times.
+// Section 1.1 of RFC 5227, in ms where they are times: the program's constants, which the promises hold to the definitions.
 pub const PROBE_WAIT: u64 = 1_000;
 
 pub const PROBE_NUM: u8 = 3;
