@@ -52,28 +52,10 @@ module _ (own : HardwareAddress) (address : Ipv4Address) (policy : ℕ) (t : Tim
   unfolding announcement
   announces = rw (ne-eqb (address .0) 0 (λ e. let h = allowed-number address allowed .0 in omega arith))
 
-  served-probe : (sent : ℕ) (deadline : Time) → deadline .0 ≤ t .0 → sent < rfc5227 .probeNum → Story policy (Probing sent deadline) marks →
-      Served own address policy t marks (record {
-        kind = Probe;
-        stage = Probing (suc sent) (after t (delay (suc sent) draw));
-        frame = some (probe own address);
-      })
-  unfolding probe
-  served-probe sent deadline late more story =
-      record {
-        frame = probe own address;
-        sends = refl;
-        counts = refl;
-        target = refl;
-        reads = probe-reads own address owned allowed;
-        story = probe-sent sent (deadline .0) draw t marks story more late;
-        taken = refl;
-      }
-
-  served-announcement : (kind : Kind) (stage : Stage) → hasFrame kind ≡ true → isFreeStage stage ≡ false → Story policy stage (announced t ∷ marks) →
+  announced-served : (kind : Kind) (stage : Stage) → hasFrame kind ≡ true → isFreeStage stage ≡ false → Story policy stage (announced t ∷ marks) →
       Served own address policy t marks (record { kind = kind; stage = stage; frame = some (announcement own address) })
   unfolding announcement
-  served-announcement kind stage counts taken story =
+  announced-served kind stage counts taken story =
       record {
         frame = announcement own address;
         sends = refl;
@@ -86,6 +68,7 @@ module _ (own : HardwareAddress) (address : Ipv4Address) (policy : ℕ) (t : Tim
 
   served-stage : (stage : Stage) (deadline : ℕ) → deadlineOf stage ≡ some deadline → deadline ≤ t .0 → Story policy stage marks →
       Served own address policy t marks (serviceAt own address t draw stage)
+  unfolding probe
   served-stage Free deadline has late story = absurd (none≢some has)
   served-stage (Probing sent d) deadline has late story = go (ltb sent (rfc5227 .probeNum)) refl
     where
@@ -93,15 +76,27 @@ module _ (own : HardwareAddress) (address : Ipv4Address) (policy : ℕ) (t : Tim
       past = let same : d .0 ≡ deadline = cc in omega arith
 
       go : (b : Bool) → ltb sent (rfc5227 .probeNum) ≡ b → Served own address policy t marks (serviceAt own address t draw (Probing sent d))
-      go true e = rw e (served-probe sent d past (ltb-true sent (rfc5227 .probeNum) e) story)
+      go true e =
+          rw e
+          (record {
+            frame = probe own address;
+            sends = refl;
+            counts = refl;
+            target = refl;
+            reads = probe-reads own address owned allowed;
+            story = probe-sent sent (d .0) draw t marks story (ltb-true sent (rfc5227 .probeNum) e) past;
+            taken = refl;
+          })
       go false e =
           let more = ltb-false sent (rfc5227 .probeNum) e in
           let most = story .atMost in
           let three : sent ≡ rfc5227 .probeNum = omega arith in
-          rw e (served-announcement Announce (Announced (after t (rfc5227 .announceInterval)) Never) refl refl
+          rw e
+          (announced-served Announce (Announced (after t (rfc5227 .announceInterval)) Never) refl refl
           (first-announced policy (d .0) t marks (subst (λ (n : ℕ). Probed n (d .0) marks) three story) past))
   served-stage (Announced d conflict) deadline has late story =
-      served-announcement Announce (Settled conflict) refl refl (second-announced policy conflict t marks story)
+      announced-served Announce (serviceAt own address t draw (Announced d conflict) .stage) refl refl
+      (second-announced policy conflict t marks story)
   served-stage (Settled conflict) deadline has late story = absurd (none≢some has)
 
 module _ (own : HardwareAddress) (s : Interface) (claims : List Claim) (asks : List ℕ) (linked : Linked own s claims asks)
