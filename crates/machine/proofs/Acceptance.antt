@@ -1,12 +1,11 @@
 -- What an accepted call says of its state and its arguments.
-use Prim.Native.Nat.{ℕ, _+_, _/_, _%_, _^_, _<_, _≤_}
-use mathlib.Core.Path.{_≡_, refl, sym, ap, _∙_}
-use mathlib.Core.Bool.{Bool, true, false, not, _&&_, _||_, true≢false, false≢true}
-use mathlib.Core.List.{List, [], _∷_}
-use mathlib.Core.Option.{Option, none, some}
+use Prim.Native.Nat.{ℕ, _/_, _%_, _^_, _<_, _≤_}
+use mathlib.Core.Path.{_≡_, refl, sym}
+use mathlib.Core.Bool.{Bool, true, false, not, _&&_, _||_}
+use mathlib.Core.List.{List}
+use mathlib.Core.Option.{Option, none}
 use native.Mathlib.Omega.{arith}
 use lib.Dec.{leb, ltb, eqb}
-use lib.ListN.{length}
 use borrow.Author.Tests.{ltb-false, leb-true, le-leb, not-false}
 use Rattle.rules.specs.Times.{lastTime}
 use Rattle.rules.specs.Addresses.{isHardware}
@@ -59,7 +58,6 @@ pub record Sound (s : Interface) : Type 0 where
   pub counted : s .conflicts ≤ rfc5227 .maxConflicts
   pub requested : isPast (s .latest) (s .request) ≡ true
   pub eachSound : all (isSoundRecord (s .latest)) (s .records) ≡ true
-  pub noneTwice : holdsNoneTwice (s .records) ≡ true
 
 pub sound : (s : Interface) → isSound s ≡ true → Sound s
 unfolding isSound
@@ -79,7 +77,6 @@ sound s e =
       counted = leb-true (s .conflicts) (rfc5227 .maxConflicts) (three .1);
       requested = four .1;
       eachSound = five .1;
-      noneTwice = six .1;
     }
 
 -- What is past stays past.

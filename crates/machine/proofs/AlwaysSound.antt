@@ -1,13 +1,13 @@
 -- From an accepted fresh every state is sound, so no call of a history is refused with 1.
-use Prim.Native.Nat.{ℕ, zero, suc, _+_, _<_, _≤_, min}
-use mathlib.Core.Path.{_≡_, refl, sym, ap, _∙_, subst}
+use Prim.Native.Nat.{ℕ, zero, suc, _+_, _≤_}
+use mathlib.Core.Path.{_≡_, refl, sym, _∙_, subst}
 use mathlib.Core.Bool.{Bool, true, false, not, cond, _&&_, _||_, true≢false, false≢true}
 use mathlib.Core.List.{List, [], _∷_}
 use mathlib.Core.Option.{Option, none, some}
-use mathlib.Core.Logic.{_⊎_, inl, inr}
+use mathlib.Core.Logic.{inl, inr}
 use native.Mathlib.Nat.{suc-inj, suc-ne-zero}
 use native.Mathlib.Omega.{arith}
-use lib.Dec.{leb, ltb, eqb}
+use lib.Dec.{leb, ltb}
 use lib.ListN.{length, set}
 use borrow.Author.Tests.{leb-true, le-leb, ltb-true, not-false}
 use Rattle.rules.specs.Times.{lastTime}
@@ -18,7 +18,7 @@ use Rattle.rules.specs.declared.Ipv4Address.{Ipv4Address}
 use Rattle.rules.specs.declared.HardwareAddress.{HardwareAddress}
 use Rattle.rules.specs.declared.Time.{Time}
 use Rattle.rules.specs.declared.Moment.{Moment}
-use Rattle.rules.specs.declared.Moment.the-variants.{Never, At}
+use Rattle.rules.specs.declared.Moment.the-variants.{At}
 use Rattle.rules.specs.declared.Stage.{Stage}
 use Rattle.rules.specs.declared.Stage.the-variants.{Free, Probing, Announced, Settled}
 use Rattle.rules.specs.declared.Record.{Record}
@@ -28,10 +28,10 @@ use Rattle.rules.specs.declared.Response.{Response}
 use Rattle.rules.specs.declared.Response.the-variants.{Lose, Defend, Keep}
 use Rattle.rules.proofs.BytesLaws.{and-both}
 use Rattle.machine.specs.Timing.{rfc5227, wait, gap, after}
-use Rattle.machine.specs.Slots.{freeRecord, recordAt, putAt, any, all, lowest}
+use Rattle.machine.specs.Slots.{freeRecord, recordAt, putAt, all, lowest}
 use Rattle.machine.specs.Interface.{isOwnHardware, isAllowed, isPolicy, isFree, isFreeStage, holds, isHeld, isPast, longestDelay, isNear, isSoundStage, isSoundRecord, holdsNoneTwice, isSound}
 use Rattle.machine.specs.Conflicts.{isConflict, countUp, seenAt, recordAfter, response}
-use Rattle.machine.specs.Calls.{Call, fresh, ask, tick, packet, drop, Outcome, delay, serviceAt, service, serve, meet, respond, freshOutcome, askOutcome, tickOutcome, packetOutcome, dropOutcome}
+use Rattle.machine.specs.Calls.{Call, fresh, ask, tick, packet, drop, delay, serviceAt, service, serve, meet, freshOutcome, askOutcome, tickOutcome, packetOutcome, dropOutcome}
 use Rattle.machine.specs.Deadlines.{dueSlot}
 use Rattle.machine.specs.Refusals.{freshRefusal}
 use Rattle.machine.specs.Machine.{refusalOf, outcomeOf, lent, resultAs, resultOf, Promised}
@@ -39,10 +39,10 @@ use Rattle.machine.specs.Claims.{Claim, claimsOf, asksAfterTenth}
 use Rattle.machine.specs.Demand3.{Step, stateAfter, isAccepted, isFresh, isNextFresh, History, events}
 use Rattle.machine.proofs.SlotLaws.{any-slot, all-holds}
 use Rattle.machine.proofs.ClaimLaws.{on}
-use Rattle.machine.proofs.Links.{Away, Here, Link}
+use Rattle.machine.proofs.Links.{Link}
 use Rattle.machine.proofs.Invariant.{Linked, holds-own}
 use Rattle.machine.proofs.Demand3.{not-fresh, history-linked, fresh-linked, fresh-accepted}
-use Rattle.machine.proofs.Acceptance.{Admitted, Sound, sound, SoundRecord, sound-record, free-sound, past-later, row, ask-accepted, tick-accepted, packet-accepted, drop-accepted}
+use Rattle.machine.proofs.Acceptance.{Admitted, sound, sound-record, free-sound, past-later, row, ask-accepted, tick-accepted, packet-accepted, drop-accepted}
 
 -- What a sound state has, with each address in one slot only, makes it sound.
 held-once : (records : List Record) →

@@ -1,13 +1,13 @@
 -- An accepted ask keeps the link: a claim begins.
-use Prim.Native.Nat.{ℕ, zero, suc, _+_, _<_, _≤_, min}
-use mathlib.Core.Path.{_≡_, refl, sym, ap, _∙_, subst}
-use mathlib.Core.Bool.{Bool, true, false, not, cond, _&&_, true≢false, false≢true}
+use Prim.Native.Nat.{ℕ, _+_, _<_, _≤_, min}
+use mathlib.Core.Path.{_≡_, refl, sym}
+use mathlib.Core.Bool.{Bool, true, false, cond, _&&_, true≢false}
 use mathlib.Core.List.{List, [], _∷_}
 use mathlib.Core.Option.{Option, none, some}
-use mathlib.Core.Logic.{_⊎_, inl, inr}
+use mathlib.Core.Logic.{inr}
 use native.Mathlib.Nat.{zero-add}
 use native.Mathlib.Omega.{arith}
-use lib.Dec.{leb, ltb, eqb}
+use lib.Dec.{leb, eqb}
 use lib.ListN.{length, set}
 use borrow.Author.Tests.{leb-true, leb-false, ltb-false, eq-eqb, ne-eqb}
 use Rattle.rules.specs.declared.Ipv4Address.{Ipv4Address}
@@ -15,22 +15,21 @@ use Rattle.rules.specs.declared.HardwareAddress.{HardwareAddress}
 use Rattle.rules.specs.declared.Time.{Time}
 use Rattle.rules.specs.declared.Moment.{Moment}
 use Rattle.rules.specs.declared.Moment.the-variants.{Never, At}
-use Rattle.rules.specs.declared.Stage.the-variants.{Free, Probing}
+use Rattle.rules.specs.declared.Stage.the-variants.{Probing}
 use Rattle.rules.specs.declared.Record.{Record}
 use Rattle.rules.specs.declared.Interface.{Interface}
 use Rattle.machine.specs.Timing.{rfc5227, wait, after, isWithin}
-use Rattle.machine.specs.Slots.{recordAt, putAt, lowest, isNone, freeRecord}
-use Rattle.machine.specs.Interface.{isFree, holds, isHeld}
-use Rattle.machine.specs.Calls.{ask, Outcome, askOutcome}
-use Rattle.machine.specs.Refusals.{askRefusal, isTooSoon}
-use Rattle.machine.specs.Machine.{acceptedAs}
-use Rattle.machine.specs.Claims.{Claim, claimsAfter, asksBy, conflicts, conflictCount, isOn}
+use Rattle.machine.specs.Slots.{recordAt, lowest}
+use Rattle.machine.specs.Interface.{isFree, holds}
+use Rattle.machine.specs.Calls.{ask, askOutcome}
+use Rattle.machine.specs.Refusals.{askRefusal}
+use Rattle.machine.specs.Claims.{Claim, claimsAfter, conflicts, conflictCount}
 use Rattle.machine.specs.Demand3.{Spaced, IsAfter}
-use Rattle.machine.proofs.SlotLaws.{none≢some, lowest-holds, any-fails}
+use Rattle.machine.proofs.SlotLaws.{lowest-holds, any-fails}
 use Rattle.machine.proofs.Acceptance.{AskAccepted, ask-accepted}
 use Rattle.machine.proofs.ClaimLaws.{on}
 use Rattle.machine.proofs.Stories.{spaced-cons, asked}
-use Rattle.machine.proofs.Links.{Agrees, Link, link-elsewhere, link-taken}
+use Rattle.machine.proofs.Links.{Link, link-elsewhere, link-taken}
 use Rattle.machine.proofs.Invariant.{LastAsk, Linked, LinkedAfter, by-address, holds-own, holds-no-other, linked-away}
 
 -- The asks after the tenth conflict stay apart: with a count of 10 an ask that is too soon is refused.

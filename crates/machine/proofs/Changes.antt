@@ -1,17 +1,15 @@
 -- A packet and a drop mark every open claim that they concern: what that does to the claims on one address.
-use Prim.Native.Nat.{ℕ}
-use mathlib.Core.Path.{_≡_, refl, sym, ap, _∙_}
+use mathlib.Core.Path.{_≡_, refl}
 use mathlib.Core.Bool.{Bool, true, false, cond, _&&_}
-use mathlib.Core.List.{List, [], _∷_, map}
-use mathlib.Core.Logic.{_⊎_, inl, inr}
-use lib.ListN.{length}
+use mathlib.Core.List.{List, _∷_, map}
+use mathlib.Core.Logic.{inl, inr}
 use Rattle.rules.specs.declared.Ipv4Address.{Ipv4Address}
 use Rattle.rules.specs.declared.Record.{Record}
 use Rattle.machine.specs.Slots.{recordAt}
 use Rattle.machine.specs.Claims.{Mark, Claim, isOpen, isOn, marked}
 use Rattle.machine.specs.Demand3.{Each}
 use Rattle.machine.proofs.ClaimLaws.{on, on-map, each-map, map-same}
-use Rattle.machine.proofs.Links.{Agrees, Closed, Away, Here, Link}
+use Rattle.machine.proofs.Links.{Closed, Here, Link}
 use Rattle.machine.proofs.Invariant.{agrees-open}
 
 -- Each open claim of which a test holds gets a mark.

@@ -1,12 +1,10 @@
 -- A conflict with a record is one with its claim, and at most one record is concerned.
 use Prim.Native.Nat.{ℕ, _<_}
-use mathlib.Core.Path.{_≡_, refl, sym, ap, _∙_}
-use mathlib.Core.Bool.{Bool, true, false, not, cond, _&&_, _||_, true≢false, false≢true, and-true, or-false}
-use mathlib.Core.List.{List}
+use mathlib.Core.Path.{_≡_, refl, sym, _∙_}
+use mathlib.Core.Bool.{Bool, true, false, not, cond, _&&_, _||_, false≢true, or-false}
 use native.Mathlib.Omega.{arith}
 use lib.Dec.{eqb}
-use borrow.Author.Tests.{eqb-true, eq-eqb, ne-eqb}
-use Rattle.rules.specs.declared.Ipv4Address.{Ipv4Address}
+use borrow.Author.Tests.{eqb-true, ne-eqb}
 use Rattle.rules.specs.declared.HardwareAddress.{HardwareAddress}
 use Rattle.rules.specs.declared.Frame.{Frame}
 use Rattle.rules.specs.declared.Stage.{Stage}
@@ -17,7 +15,7 @@ use Rattle.rules.proofs.BytesLaws.{and-both}
 use Rattle.machine.specs.Slots.{recordAt}
 use Rattle.machine.specs.Interface.{isOurs, isFree, isFreeStage, isSound}
 use Rattle.machine.specs.Conflicts.{isFrom, probesFor, isConflictAt, isConflict}
-use Rattle.machine.specs.Claims.{Mark, Claim, isInUse, isConflictWith}
+use Rattle.machine.specs.Claims.{Claim, isConflictWith}
 use Rattle.machine.proofs.Acceptance.{sound-at, allowed-number}
 use Rattle.machine.proofs.Stories.{untouched}
 use Rattle.machine.proofs.Links.{Story, Agrees}

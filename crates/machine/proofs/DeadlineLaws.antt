@@ -1,5 +1,5 @@
 -- "Among deadlines not later than the time, serve the earliest, the lowest slot on a tie", literally.
-use Prim.Native.Nat.{ℕ, zero, suc, _+_, _<_, _≤_, min}
+use Prim.Native.Nat.{ℕ, zero, suc, _<_, _≤_, min}
 use mathlib.Core.Path.{_≡_, refl, sym, ap, _∙_}
 use mathlib.Core.Bool.{Bool, true, false, cond, true≢false, false≢true}
 use mathlib.Core.List.{List, [], _∷_}
@@ -7,14 +7,14 @@ use mathlib.Core.Option.{Option, none, some}
 use mathlib.Core.Logic.{_⊎_, inl, inr}
 use native.Mathlib.Nat.{lt-of-not-le, le-of-suc-le-suc}
 use native.Mathlib.Omega.{arith}
-use lib.Dec.{leb, eqb}
+use lib.Dec.{leb}
 use lib.ListN.{length}
 use borrow.Author.Tests.{leb-true, leb-false, eqb-true, eq-eqb}
 use Rattle.rules.specs.declared.Time.{Time}
 use Rattle.rules.specs.declared.Record.{Record}
-use Rattle.machine.specs.Slots.{freeRecord, recordAt, lowestFrom, lowest}
+use Rattle.machine.specs.Slots.{recordAt, lowestFrom, lowest}
 use Rattle.machine.specs.Deadlines.{deadlineOf, isDeadline, hasDeadline, smaller, smallestDeadline, dueAt, dueSlot}
-use Rattle.machine.proofs.SlotLaws.{none≢some, lowest-holds, lowest-below, none-fails}
+use Rattle.machine.proofs.SlotLaws.{none≢some, lowest-holds, lowest-below}
 
 -- The deadline in a slot.
 abbrev pub deadlineAt : List Record → ℕ → Option ℕ

@@ -1,18 +1,16 @@
 -- Demand 3 holds of every history.
-use Prim.Native.Nat.{ℕ, zero, suc, _+_, _<_, _≤_, min}
-use mathlib.Core.Path.{_≡_, refl, sym, ap, _∙_, subst}
-use mathlib.Core.Bool.{Bool, true, false, not, cond, _&&_, true≢false, false≢true}
+use Prim.Native.Nat.{ℕ, _+_}
+use mathlib.Core.Path.{_≡_, refl, sym, ap, _∙_}
+use mathlib.Core.Bool.{Bool, true, false, cond, _&&_, true≢false, false≢true}
 use mathlib.Core.List.{List, [], _∷_, _++_, map}
 use mathlib.Core.Option.{Option, none, some}
-use mathlib.Core.Logic.{_⊎_, inl, inr, _↔_}
+use mathlib.Core.Logic.{inl, inr, _↔_}
 use native.Mathlib.Omega.{arith}
-use lib.ListN.{length, getD}
-use Rattle.rules.specs.Answers.{Report, refused, accepted, Accepted, answerReport, reported, leaves}
+use Rattle.rules.specs.Answers.{Report, refused, accepted, Accepted, answerReport}
 use Rattle.rules.specs.declared.Ipv4Address.{Ipv4Address}
 use Rattle.rules.specs.declared.HardwareAddress.{HardwareAddress}
 use Rattle.rules.specs.declared.Time.{Time}
 use Rattle.rules.specs.declared.Moment.{Moment}
-use Rattle.rules.specs.declared.Moment.the-variants.{Never}
 use Rattle.rules.specs.declared.Stage.{Stage}
 use Rattle.rules.specs.declared.Stage.the-variants.{Free, Probing, Announced, Settled}
 use Rattle.rules.specs.declared.Record.{Record}
@@ -20,19 +18,19 @@ use Rattle.rules.specs.declared.Interface.{Interface}
 use Rattle.rules.specs.declared.Answer.{Answer}
 use Rattle.rules.proofs.BytesLaws.{and-both}
 use Rattle.machine.specs.Timing.{rfc5227}
-use Rattle.machine.specs.Slots.{freeRecord, recordAt, any}
+use Rattle.machine.specs.Slots.{recordAt, any}
 use Rattle.machine.specs.Interface.{holds, isUsableStage}
 use Rattle.machine.specs.Calls.{Call, fresh, ask, tick, packet, drop, freshOutcome}
 use Rattle.machine.specs.Refusals.{freshRefusal}
-use Rattle.machine.specs.Machine.{Result, refusalOf, outcomeOf, lent, handedOut, acceptedAs, resultAs, resultOf, Promised}
-use Rattle.machine.specs.Claims.{Event, Mark, probed, announced, defended, conflicted, dropped, Claim, isInUse, isOpen, claimsBy, claimsOf, latestOn, asksBy, asksAfterTenth, conflictCount, defences}
-use Rattle.machine.specs.Demand3.{Step, stateAfter, isAccepted, isFresh, isNextFresh, History, eventOf, events, stateLeft, plainMachine, resultIn, isUsableIn, isUsable, Each, WentThrough, LatestWentThrough, SendsFew, DefendsSeldom, acceptedOnly, CountForNothing, Demand3, Theorem}
+use Rattle.machine.specs.Machine.{Result, refusalOf, outcomeOf, lent, resultAs, resultOf, Promised}
+use Rattle.machine.specs.Claims.{Event, Mark, probed, announced, defended, conflicted, dropped, Claim, isInUse, claimsBy, claimsOf, latestOn, asksBy, asksAfterTenth, conflictCount, defences}
+use Rattle.machine.specs.Demand3.{Step, stateAfter, isAccepted, isFresh, History, eventOf, events, stateLeft, plainMachine, resultIn, isUsableIn, isUsable, Each, WentThrough, LatestWentThrough, SendsFew, DefendsSeldom, acceptedOnly, CountForNothing, Theorem}
 use Rattle.machine.proofs.SlotLaws.{any-fails, any-holds, any-slot}
 use Rattle.machine.proofs.Windows.{spaced-few}
 use Rattle.machine.proofs.ClaimLaws.{on, first, latest-first, on-each, each-map}
 use Rattle.machine.proofs.Stories.{untouched, Bounded, InUse}
-use Rattle.machine.proofs.Links.{Story, Agrees, Closed, Away, Here, Link}
-use Rattle.machine.proofs.Invariant.{Linked, LinkedAfter, linked-here, agrees-open, agrees-bounded}
+use Rattle.machine.proofs.Links.{Story, Closed, Link}
+use Rattle.machine.proofs.Invariant.{Linked, LinkedAfter, linked-here, agrees-bounded}
 use Rattle.machine.proofs.AskStep.{ask-step}
 use Rattle.machine.proofs.TickStep.{tick-step}
 use Rattle.machine.proofs.PacketStep.{packet-step}

@@ -1,11 +1,10 @@
 -- An accepted drop keeps the link: the claim of its slot is over.
 use Prim.Native.Nat.{ℕ, _<_}
-use mathlib.Core.Path.{_≡_, refl, sym, ap, _∙_, subst}
-use mathlib.Core.Bool.{Bool, true, false, not, cond, _&&_, true≢false, false≢true}
-use mathlib.Core.List.{List, [], _∷_, map}
-use mathlib.Core.Option.{none, some}
-use mathlib.Core.Logic.{_⊎_, inl, inr}
-use lib.Dec.{eqb}
+use mathlib.Core.Path.{_≡_, refl, sym, _∙_, subst}
+use mathlib.Core.Bool.{Bool, true, false, not, cond, _&&_, false≢true}
+use mathlib.Core.List.{List, map}
+use mathlib.Core.Option.{none}
+use mathlib.Core.Logic.{inl}
 use lib.ListN.{length, set}
 use borrow.Author.Tests.{eq-eqb, ne-eqb}
 use Rattle.rules.specs.declared.Ipv4Address.{Ipv4Address}
@@ -23,7 +22,7 @@ use Rattle.machine.proofs.Acceptance.{drop-accepted}
 use Rattle.machine.proofs.ClaimLaws.{on}
 use Rattle.machine.proofs.Stories.{bounded-dropped, ended-by-drop}
 use Rattle.machine.proofs.Links.{Link, Here, link-elsewhere, link-over}
-use Rattle.machine.proofs.Invariant.{Linked, LinkedAfter, last-ask-counts, by-address, holds-own, holds-no-other, linked-here, agrees-bounded, count-changed}
+use Rattle.machine.proofs.Invariant.{Linked, LinkedAfter, by-address, holds-own, holds-no-other, linked-here, agrees-bounded, count-changed}
 use Rattle.machine.proofs.Changes.{on-changed, unconcerned-each, same-each, concerned-marked}
 
 module _ (own : HardwareAddress) (s : Interface) (claims : List Claim) (asks : List ℕ) (linked : Linked own s claims asks)

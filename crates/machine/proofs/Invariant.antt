@@ -1,12 +1,12 @@
 -- What links the state to what was seen, after every history.
-use Prim.Native.Nat.{ℕ, suc, _+_, _<_, _≤_, min}
-use mathlib.Core.Path.{_≡_, refl, sym, ap, _∙_, subst}
-use mathlib.Core.Bool.{Bool, true, false, not, cond, _&&_, true≢false, false≢true}
+use Prim.Native.Nat.{ℕ, _+_, _≤_, min}
+use mathlib.Core.Path.{_≡_, refl, sym, _∙_, subst}
+use mathlib.Core.Bool.{Bool, true, false, not, cond, _&&_, false≢true}
 use mathlib.Core.List.{List, [], _∷_, map}
-use mathlib.Core.Logic.{_⊎_, inl, inr}
+use mathlib.Core.Logic.{inl, inr}
 use native.Mathlib.Omega.{arith}
 use lib.Dec.{eqb}
-use lib.ListN.{length, set}
+use lib.ListN.{length}
 use borrow.Author.Tests.{eqb-true, eqb-false, eq-eqb, ne-eqb}
 use Rattle.rules.specs.Answers.{accepted}
 use Rattle.rules.specs.declared.Ipv4Address.{Ipv4Address}
@@ -23,11 +23,11 @@ use Rattle.machine.specs.Slots.{recordAt}
 use Rattle.machine.specs.Interface.{isFree, holds}
 use Rattle.machine.specs.Calls.{Call, Outcome}
 use Rattle.machine.specs.Machine.{lent, handedOut, acceptedAs}
-use Rattle.machine.specs.Claims.{claimsAfter, asksBy, Mark, Claim, isOpen, isOpenAfter, isInUse, conflicts, conflictCount, marked, markedLatest, isOn}
-use Rattle.machine.specs.Demand3.{Each, Spaced}
+use Rattle.machine.specs.Claims.{claimsAfter, asksBy, Mark, Claim, isOpen, isOpenAfter, conflicts, conflictCount, marked, markedLatest, isOn}
+use Rattle.machine.specs.Demand3.{Spaced}
 use Rattle.machine.proofs.ClaimLaws.{on}
 use Rattle.machine.proofs.Stories.{untouched, Bounded, probing-bounded, in-use-bounded}
-use Rattle.machine.proofs.Links.{Story, Agrees, Closed, Away, Here, Link}
+use Rattle.machine.proofs.Links.{Story, Agrees, Away, Here, Link}
 
 -- Where there were asks after the tenth conflict, the count is at least 10, and the latest of them is the latest request.
 abbrev pub LastAsk : List ℕ → ℕ → Moment → Type 0

@@ -1,21 +1,21 @@
 -- An accepted packet keeps the link: it is a conflict with the claim of one slot, or with none.
-use Prim.Native.Nat.{ℕ, zero, suc, _+_, _<_, _≤_, min}
+use Prim.Native.Nat.{ℕ, suc, _+_, _<_, _≤_, min}
 use mathlib.Core.Path.{_≡_, refl, sym, ap, _∙_, subst}
-use mathlib.Core.Bool.{Bool, true, false, not, cond, _&&_, _||_, true≢false, false≢true}
+use mathlib.Core.Bool.{Bool, true, false, cond, _&&_, true≢false, false≢true}
 use mathlib.Core.List.{List, [], _∷_, map}
 use mathlib.Core.Option.{Option, none, some}
-use mathlib.Core.Logic.{_⊎_, inl, inr}
+use mathlib.Core.Logic.{inl, inr}
 use native.Mathlib.Nat.{zero-add}
 use native.Mathlib.Omega.{arith}
-use lib.Dec.{leb, ltb, eqb}
+use lib.Dec.{eqb}
 use lib.ListN.{length, set}
-use borrow.Author.Tests.{leb-true, le-leb, eqb-true, eqb-false, eq-eqb}
+use borrow.Author.Tests.{eqb-true, eqb-false, eq-eqb}
 use Rattle.rules.specs.Frame.{announcement, frameOf, framePut}
 use Rattle.rules.specs.declared.Ipv4Address.{Ipv4Address}
 use Rattle.rules.specs.declared.HardwareAddress.{HardwareAddress}
 use Rattle.rules.specs.declared.Time.{Time}
 use Rattle.rules.specs.declared.Moment.{Moment}
-use Rattle.rules.specs.declared.Moment.the-variants.{Never, At}
+use Rattle.rules.specs.declared.Moment.the-variants.{At}
 use Rattle.rules.specs.declared.Frame.{Frame}
 use Rattle.rules.specs.declared.Stage.{Stage}
 use Rattle.rules.specs.declared.Stage.the-variants.{Free, Probing, Announced, Settled}
@@ -24,19 +24,19 @@ use Rattle.rules.specs.declared.Interface.{Interface}
 use Rattle.rules.specs.declared.Response.{Response}
 use Rattle.rules.specs.declared.Response.the-variants.{Lose, Defend, Keep}
 use Rattle.rules.proofs.BytesLaws.{and-both}
-use Rattle.machine.specs.Timing.{rfc5227, isWithin}
+use Rattle.machine.specs.Timing.{rfc5227}
 use Rattle.machine.specs.Slots.{recordAt, freeRecord, lowest}
 use Rattle.machine.specs.Interface.{isFree, isFreeStage, holds, isPast, isNear, isSoundStage}
-use Rattle.machine.specs.Conflicts.{isConflict, countUp, byPolicy, responseAt, response, seenAt, recordAfter}
+use Rattle.machine.specs.Conflicts.{isConflict, countUp, byPolicy, responseAt, response, seenAt}
 use Rattle.machine.specs.Calls.{packet, respond, meet, packetOutcome}
 use Rattle.machine.specs.Refusals.{packetRefusal}
-use Rattle.machine.specs.Claims.{Mark, Claim, conflicted, defended, isOpen, isOn, isOpenAfter, isConflictWith, struck, marked, markedLatest, defences, conflicts, conflictCount, claimsAfter}
+use Rattle.machine.specs.Claims.{Mark, Claim, conflicted, defended, isOpen, isOn, isOpenAfter, isConflictWith, struck, marked, markedLatest, conflicts, conflictCount, claimsAfter}
 use Rattle.machine.specs.Demand3.{Each}
 use Rattle.machine.proofs.SlotLaws.{lowest-holds, none-fails}
 use Rattle.machine.proofs.Acceptance.{Admitted, past-later, packet-accepted, sound, sound-at, announcement-reads}
 use Rattle.machine.proofs.ClaimLaws.{on, on-each, each-map, on-marked, on-marked-other}
-use Rattle.machine.proofs.Stories.{untouched, Bounded, InUse, Behind, conflict-borne, defence-sent, bounded-conflicted, ended-before-use, ended-by-surrender, lost-surrenders, defended-bears, kept-bears}
-use Rattle.machine.proofs.Links.{Story, Agrees, Closed, Away, Here, Link, link-elsewhere, link-goes-on, link-over}
+use Rattle.machine.proofs.Stories.{untouched, Bounded, InUse, conflict-borne, defence-sent, bounded-conflicted, ended-before-use, ended-by-surrender, lost-surrenders, defended-bears, kept-bears}
+use Rattle.machine.proofs.Links.{Story, Agrees, Closed, Here, Link, link-elsewhere, link-goes-on, link-over}
 use Rattle.machine.proofs.Invariant.{LastAsk, agrees-open, Linked, LinkedAfter, last-ask-counts, by-address, holds-own, holds-no-other, held-address, linked-here, agrees-bounded, count-marked}
 use Rattle.machine.proofs.ConflictLaws.{agrees-conflict, conflict-held, one-concerned}
 use Rattle.machine.proofs.Changes.{on-changed, unconcerned-each, same-each, concerned-marked}

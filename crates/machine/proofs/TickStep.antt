@@ -1,33 +1,33 @@
 -- An accepted tick keeps the link: a frame of the due slot's claim is sent, or nothing is.
-use Prim.Native.Nat.{ℕ, suc, _+_, _<_, _≤_}
-use mathlib.Core.Path.{_≡_, refl, sym, ap, _∙_, subst}
-use mathlib.Core.Bool.{Bool, true, false, not, cond, _&&_, true≢false, false≢true}
-use mathlib.Core.List.{List, [], _∷_}
+use Prim.Native.Nat.{ℕ, _≤_}
+use mathlib.Core.Path.{_≡_, refl, sym, subst}
+use mathlib.Core.Bool.{Bool, true, false, cond}
+use mathlib.Core.List.{List, _∷_}
 use mathlib.Core.Option.{Option, none, some}
-use mathlib.Core.Logic.{_⊎_, inl, inr}
+use mathlib.Core.Logic.{inr}
 use native.Mathlib.Omega.{arith}
-use lib.Dec.{leb, ltb, eqb}
+use lib.Dec.{ltb, eqb}
 use lib.ListN.{length, set}
-use borrow.Author.Tests.{leb-true, ltb-true, ltb-false, eqb-true, eq-eqb, ne-eqb}
+use borrow.Author.Tests.{ltb-true, ltb-false, ne-eqb}
 use Rattle.rules.specs.Frame.{probe, announcement, frameOf, framePut}
 use Rattle.rules.specs.declared.Ipv4Address.{Ipv4Address}
 use Rattle.rules.specs.declared.HardwareAddress.{HardwareAddress}
 use Rattle.rules.specs.declared.Time.{Time}
 use Rattle.rules.specs.declared.Frame.{Frame}
 use Rattle.rules.specs.declared.Kind.{Kind}
-use Rattle.rules.specs.declared.Kind.the-variants.{Probe, Announce}
+use Rattle.rules.specs.declared.Kind.the-variants.{Announce}
 use Rattle.rules.specs.declared.Moment.the-variants.{Never}
 use Rattle.rules.specs.declared.Stage.{Stage}
 use Rattle.rules.specs.declared.Stage.the-variants.{Free, Probing, Announced, Settled}
 use Rattle.rules.specs.declared.Record.{Record}
 use Rattle.rules.specs.declared.Interface.{Interface}
 use Rattle.machine.specs.Timing.{rfc5227, after}
-use Rattle.machine.specs.Slots.{recordAt, freeRecord, lowest}
+use Rattle.machine.specs.Slots.{recordAt}
 use Rattle.machine.specs.Interface.{isOwnHardware, isAllowed, isFreeStage, isFree}
-use Rattle.machine.specs.Deadlines.{deadlineOf, isDeadline, hasDeadline, smallestDeadline, dueAt, dueSlot}
-use Rattle.machine.specs.Calls.{tick, Service, serviceAt, service, delay, servedAs, serve, tickOutcome}
+use Rattle.machine.specs.Deadlines.{deadlineOf, dueSlot}
+use Rattle.machine.specs.Calls.{tick, Service, serviceAt, service, serve, tickOutcome}
 use Rattle.machine.specs.Refusals.{tickRefusal}
-use Rattle.machine.specs.Claims.{Mark, Claim, probed, announced, hasFrame, ticked, marked, markedLatest, claimsAfter, conflicts, conflictCount}
+use Rattle.machine.specs.Claims.{Mark, Claim, probed, announced, hasFrame, ticked, marked, markedLatest, claimsAfter, conflicts}
 use Rattle.machine.proofs.SlotLaws.{none≢some}
 use Rattle.machine.proofs.DeadlineLaws.{Due, due-slot}
 use Rattle.machine.proofs.Acceptance.{Admitted, tick-accepted, sound, sound-at, allowed-number, probe-reads, announcement-reads}

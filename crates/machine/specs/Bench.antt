@@ -1,6 +1,6 @@
 -- Document 01, "Bench cases": W1 to W12, one table under one claim; and the whole case of "Replay lines".
 use Prim.Native.Nat.{ℕ}
-use mathlib.Core.Path.{_≡_, refl}
+use mathlib.Core.Path.{_≡_}
 use mathlib.Core.List.{List, [], _∷_, map}
 use mathlib.Core.Option.{Option, none, some}
 use lib.IntN.{ℤ, pos, negsuc}
