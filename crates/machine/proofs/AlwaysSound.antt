@@ -273,7 +273,7 @@ step-sound : (before : Interface) (step : Step) → Promised before (step .call)
     isNextFresh step ≡ false → Steady before → Steady (step .state)
 unfolding resultOf
 step-sound before step promised old steady =
-    go (refusalOf before (step .call)) refl (answerReport (step .answer)) (promised .answered) (promised .kept) old
+    go (refusalOf before (step .call)) refl (answerReport (step .answer)) (promised .answered) (promised .handedBack) old
   where
     go : (refusal : Option ℕ) → refusalOf before (step .call) ≡ refusal → (report : Report Accepted) →
         report ≡ resultAs refusal before (lent (step .call)) (outcomeOf before (step .call)) .report →

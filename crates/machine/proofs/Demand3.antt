@@ -40,7 +40,7 @@ use Rattle.machine.proofs.DropStep.{drop-step}
 step-result : (before : Interface) (step : Step) → Promised before (step .call) (step .answer) (step .state) (step .out) →
     resultIn step ≡ resultOf before (step .call)
 step-result before step promised i =
-    record { report = promised .answered i; state = promised .kept i; out = promised .written i }
+    record { report = promised .answered i; state = promised .handedBack i; out = promised .written i }
 
 state-left : (start : Interface) (steps : List Step) → stateLeft start (map resultIn steps) ≡ stateAfter start steps
 state-left start [] = refl
@@ -86,7 +86,7 @@ module _ (own : HardwareAddress) (before : Interface) (claims : List Claim) (ask
       (asksBy call (answerReport answer) claims asks)
   unfolding resultOf
   step-linked answer state out promised old =
-      step-by (refusalOf before call) refl (answerReport answer) state out (promised .answered) (promised .kept) (promised .written) old
+      step-by (refusalOf before call) refl (answerReport answer) state out (promised .answered) (promised .handedBack) (promised .written) old
 
 pub history-linked : (own : HardwareAddress) (start : Interface) → Linked own start [] [] → (steps : List Step) → History start steps →
     Linked own (stateAfter start steps) (claimsOf own (events steps)) (asksAfterTenth own (events steps))
@@ -186,7 +186,7 @@ all-bounded own s claims asks linked =
 refused-state : (before : Interface) (step : Step) → Promised before (step .call) (step .answer) (step .state) (step .out) →
     isAccepted (answerReport (step .answer)) ≡ false → step .state ≡ before
 unfolding resultOf
-refused-state before step promised denied = go (refusalOf before (step .call)) (promised .answered) (promised .kept)
+refused-state before step promised denied = go (refusalOf before (step .call)) (promised .answered) (promised .handedBack)
   where
     go : (refusal : Option ℕ) → answerReport (step .answer) ≡ resultAs refusal before (lent (step .call)) (outcomeOf before (step .call)) .report →
         step .state ≡ resultAs refusal before (lent (step .call)) (outcomeOf before (step .call)) .state → step .state ≡ before
@@ -256,7 +256,7 @@ fresh-linked own =
 pub fresh-accepted : (own : HardwareAddress) (before start : Interface) (answer : Answer) → Promised before (fresh own) answer start [] →
     isAccepted (answerReport answer) ≡ true → (freshRefusal own ≡ none) × (start ≡ freshOutcome own .state)
 unfolding resultOf refusalOf outcomeOf
-fresh-accepted own before start answer promised taken = go (freshRefusal own) refl (promised .answered) (promised .kept)
+fresh-accepted own before start answer promised taken = go (freshRefusal own) refl (promised .answered) (promised .handedBack)
   where
     go : (refusal : Option ℕ) → freshRefusal own ≡ refusal → answerReport answer ≡ resultAs refusal before [] (freshOutcome own) .report →
         start ≡ resultAs refusal before [] (freshOutcome own) .state → (freshRefusal own ≡ none) × (start ≡ freshOutcome own .state)

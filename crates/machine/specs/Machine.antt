@@ -70,5 +70,5 @@ resultOf s call = resultAs (refusalOf s call) s (lent call) (outcomeOf s call)
 -- and the out buffer afterwards are the machine's.
 pub record Promised (before : Interface) (call : Call) (answer : Answer) (after : Interface) (out : List ℕ) : Type 0 where
   pub answered : answerReport answer ≡ resultOf before call .report
-  pub kept : after ≡ resultOf before call .state
+  pub handedBack : after ≡ resultOf before call .state
   pub written : out ≡ resultOf before call .out

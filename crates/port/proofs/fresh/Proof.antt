@@ -1,0 +1,22 @@
+-- `port::fresh`: a new interface, or refusal 2.
+use borrow.Author.Needs.{needs}
+use Rattle.port.proofs.Laws.{fresh-ends}
+use Rattle.port.proofs.fresh.Statement.{statement}
+use Rattle.port.proofs.fresh.Tie as tie
+
+returns : tie.Need-returns
+returns c = search fresh-ends
+
+returns-2 : tie.Need-returns-2
+returns-2 c = search fresh-ends
+
+pub fresh-spec : {M : Type 1} → statement M
+fresh-spec =
+    tie.close
+    (tie.spec
+    (λ c κs. search needs)
+    (λ c κs. search needs)
+    (λ c κs. search needs)
+    (λ c κs. search needs)
+    returns
+    returns-2)

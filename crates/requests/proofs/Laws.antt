@@ -1,0 +1,48 @@
+-- Each request is the frame of the crate rules, and a sound state's requests can be written.
+use Prim.Native.Nat.{ℕ, _≤_}
+use mathlib.Core.Path.{_≡_, refl}
+use mathlib.Core.List.{List}
+use mathlib.Core.Bool.{Bool, true, false}
+use lib.ListN.{length}
+use borrow.Author.Tests.{le-ltb}
+use Rattle.rules.specs.Addresses.{isHardware}
+use Rattle.rules.specs.Frame.{probe, announcement, isWritable, writeRefusal, framePut, writeOut}
+use Rattle.rules.specs.declared.Ipv4Address.{Ipv4Address}
+use Rattle.rules.specs.declared.HardwareAddress.{HardwareAddress}
+use Rattle.rules.specs.declared.Frame.{Frame}
+use Rattle.rules.specs.declared.Interface.{Interface}
+use Rattle.machine.specs.Interface.{isOwnHardware, isSound}
+use Rattle.requests.specs.Parts.{requestOf}
+
+-- `f` is what `request` made.
+module _ (own : HardwareAddress) (address : Ipv4Address) (f : Frame) where
+  pub is-probe : f ≡ requestOf own (record { 0 = 0 }) address → f ≡ probe own address
+  unfolding probe
+  is-probe e = e
+
+  pub is-announcement : f ≡ requestOf own address address → f ≡ announcement own address
+  unfolding announcement
+  is-announcement e = e
+
+-- A sound state's own hardware address has 48 bits.
+sound-hardware : (s : Interface) → isSound s ≡ true → isHardware (s .hardware) ≡ true
+unfolding isSound isOwnHardware
+sound-hardware s e = go (isHardware (s .hardware)) refl
+  where
+    go : (b : Bool) → isHardware (s .hardware) ≡ b → isHardware (s .hardware) ≡ true
+    go true h = h
+    go false h = cc
+
+-- So its requests are put into an out buffer of 28 bytes or more.
+module _ (s : Interface) (sound : isSound s ≡ true) (address : Ipv4Address) (out : List ℕ) (room : 28 ≤ length out) where
+  put : (sender : Ipv4Address) → writeOut (requestOf (s .hardware) sender address) out ≡ framePut (requestOf (s .hardware) sender address) out
+  unfolding writeOut writeRefusal isWritable
+  put sender = rw (le-ltb (length out) 28 room, sound-hardware s sound)
+
+  pub probe-put : writeOut (probe (s .hardware) address) out ≡ framePut (probe (s .hardware) address) out
+  unfolding probe
+  probe-put = put (record { 0 = 0 })
+
+  pub announcement-put : writeOut (announcement (s .hardware) address) out ≡ framePut (announcement (s .hardware) address) out
+  unfolding announcement
+  announcement-put = put address

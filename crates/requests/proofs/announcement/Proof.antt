@@ -1,0 +1,11 @@
+-- `requests::announcement`: the request is the announcement.
+use borrow.Author.Needs.{needs}
+use Rattle.requests.proofs.Laws.{is-announcement}
+use Rattle.requests.proofs.announcement.Statement.{statement}
+use Rattle.requests.proofs.announcement.Tie as tie
+
+returns : tie.Need-returns
+returns c = search is-announcement
+
+pub announcement-spec : {M : Type 1} → statement M
+announcement-spec = tie.close (tie.spec (λ c κs. search needs) returns)

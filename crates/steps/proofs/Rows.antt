@@ -1,0 +1,33 @@
+-- The rows 1, 3 and 4, then a call's own.
+use Prim.Native.Nat.{ℕ}
+use mathlib.Core.Path.{_≡_, refl}
+use mathlib.Core.Bool.{Bool, true, false, not}
+use mathlib.Core.Option.{Option, none, some}
+use lib.Dec.{ltb}
+use Rattle.rules.specs.Times.{lastTime}
+use Rattle.rules.specs.Answers.{_if_else_}
+use Rattle.rules.specs.declared.Time.{Time}
+use Rattle.rules.specs.declared.Interface.{Interface}
+use Rattle.machine.specs.Interface.{isSound}
+use Rattle.machine.specs.Refusals.{stateAndTime}
+use Rattle.steps.specs.Parts.{orElse}
+
+-- A row and what comes after it are one part of the table.
+pub row-joins : (first : Option ℕ) (n : ℕ) (applies : Bool) (others : Option ℕ) →
+    orElse (orElse first (n if applies else none)) others ≡ orElse first (n if applies else others)
+row-joins none n true others = refl
+row-joins none n false others = refl
+row-joins (some m) n applies others = refl
+
+-- Rows 1, 3 and 4 are one.
+module _ (s : Interface) (time : Time) (others : Option ℕ) where
+  joins : (sound above below : Bool) →
+      orElse (1 if not sound else 3 if above else 4 if below else none) others ≡ 1 if not sound else 3 if above else 4 if below else others
+  joins true false false = refl
+  joins true false true = refl
+  joins true true below = refl
+  joins false above below = refl
+
+  pub admits : orElse (stateAndTime s time none) others ≡ stateAndTime s time others
+  unfolding stateAndTime
+  admits = joins (isSound s) (ltb lastTime (time .0)) (ltb (time .0) (s .latest .0))
