@@ -52,9 +52,10 @@ admitted s time others e =
       four .1,
     )
 
--- A sound state's own hardware address, and its records.
+-- What a sound state has; that no address is in two slots apart.
 pub record Sound (s : Interface) : Type 0 where
   pub own : isOwnHardware (s .hardware) ≡ true
+  pub inRange : s .latest .0 ≤ lastTime
   pub counted : s .conflicts ≤ rfc5227 .maxConflicts
   pub requested : isPast (s .latest) (s .request) ≡ true
   pub eachSound : all (isSoundRecord (s .latest)) (s .records) ≡ true
@@ -74,10 +75,17 @@ sound s e =
     let two = and-both a b (three .0) in
     record {
       own = two .0;
+      inRange = leb-true (s .latest .0) lastTime (two .1);
       counted = leb-true (s .conflicts) (rfc5227 .maxConflicts) (three .1);
       requested = four .1;
       eachSound = five .1;
     }
+
+pub sound-once : (s : Interface) → isSound s ≡ true → holdsNoneTwice (s .records) ≡ true
+unfolding isSound
+sound-once s e =
+    and-both (isOwnHardware (s .hardware) && leb (s .latest .0) lastTime && leb (s .conflicts) (rfc5227 .maxConflicts)
+      && isPast (s .latest) (s .request) && all (isSoundRecord (s .latest)) (s .records)) (holdsNoneTwice (s .records)) e .1
 
 -- What is past stays past.
 pub past-later : (latest t : Time) (m : Moment) → latest .0 ≤ t .0 → isPast latest m ≡ true → isPast t m ≡ true
@@ -119,7 +127,7 @@ allowed-number address e =
     (omega arith, omega arith)
 
 -- A sound state's own hardware address has 48 bits, so its requests can be written, and read back from where they were put.
-own-hardware : (own : HardwareAddress) → isOwnHardware own ≡ true → isHardware own ≡ true
+pub own-hardware : (own : HardwareAddress) → isOwnHardware own ≡ true → isHardware own ≡ true
 unfolding isOwnHardware
 own-hardware own e =
     let two = and-both (isHardware own && not (eqb (own .0) 0)) (eqb (own .0 / 2 ^ 40 % 2) 0) e in
@@ -169,9 +177,11 @@ ask-accepted s time address policy e =
       inTime = f .0;
     }
 
-pub tick-accepted : (s : Interface) (time : Time) (room : ℕ) → tickRefusal s time room ≡ none → Admitted s time
+pub tick-accepted : (s : Interface) (time : Time) (room : ℕ) → tickRefusal s time room ≡ none → Admitted s time × (28 ≤ room)
 unfolding tickRefusal
-tick-accepted s time room e = admitted s time (5 if ltb room 28 else none) e .0
+tick-accepted s time room e =
+    let w = admitted s time (5 if ltb room 28 else none) e in
+    (w .0, ltb-false room 28 (row 5 (ltb room 28) none (w .1) .0))
 
 pub packet-accepted : (s : Interface) (time : Time) (bytes : List ℕ) (room : ℕ) → packetRefusal s time bytes room ≡ none → Admitted s time
 unfolding packetRefusal

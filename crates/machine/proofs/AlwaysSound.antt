@@ -5,11 +5,10 @@ use mathlib.Core.Bool.{Bool, true, false, not, cond, _&&_, _||_, true≢false, f
 use mathlib.Core.List.{List, [], _∷_}
 use mathlib.Core.Option.{Option, none, some}
 use mathlib.Core.Logic.{inl, inr}
-use native.Mathlib.Nat.{suc-inj, suc-ne-zero}
 use native.Mathlib.Omega.{arith}
-use lib.Dec.{leb, ltb}
+use lib.Dec.{leb, ltb, eqb}
 use lib.ListN.{length, set}
-use borrow.Author.Tests.{leb-true, le-leb, ltb-true, not-false}
+use borrow.Author.Tests.{leb-true, le-leb, ltb-true, eqb-false, not-false}
 use Rattle.rules.specs.Times.{lastTime}
 use Rattle.rules.specs.Answers.{Report, Accepted, answerReport}
 use Rattle.rules.specs.Frame.{frameOf}
@@ -28,57 +27,36 @@ use Rattle.rules.specs.declared.Response.{Response}
 use Rattle.rules.specs.declared.Response.the-variants.{Lose, Defend, Keep}
 use Rattle.rules.proofs.BytesLaws.{and-both}
 use Rattle.machine.specs.Timing.{rfc5227, wait, gap, after}
-use Rattle.machine.specs.Slots.{freeRecord, recordAt, putAt, all, lowest}
-use Rattle.machine.specs.Interface.{isOwnHardware, isAllowed, isPolicy, isFree, isFreeStage, holds, isHeld, isPast, longestDelay, isNear, isSoundStage, isSoundRecord, holdsNoneTwice, isSound}
+use Rattle.machine.specs.Slots.{withStage, freeRecord, recordAt, putAt, all, lowest}
+use Rattle.machine.specs.Interface.{isOwnHardware, isAllowed, isPolicy, isFree, isFreeStage, holds, isPast, longestDelay, isNear, isSoundStage, isSoundRecord, isSound}
 use Rattle.machine.specs.Conflicts.{isConflict, countUp, seenAt, recordAfter, response}
-use Rattle.machine.specs.Calls.{Call, fresh, ask, tick, packet, drop, delay, serviceAt, service, serve, meet, freshOutcome, askOutcome, tickOutcome, packetOutcome, dropOutcome}
+use Rattle.machine.specs.Calls.{newClaim, Call, fresh, ask, tick, packet, drop, delay, serviceAt, service, serve, meet, freshOutcome, askOutcome, tickOutcome, packetOutcome, dropOutcome}
 use Rattle.machine.specs.Deadlines.{dueSlot}
 use Rattle.machine.specs.Refusals.{freshRefusal}
 use Rattle.machine.specs.Machine.{refusalOf, outcomeOf, lent, resultAs, resultOf, Promised}
 use Rattle.machine.specs.Claims.{Claim, claimsOf, asksAfterTenth}
 use Rattle.machine.specs.Demand3.{Step, stateAfter, isAccepted, isFresh, isNextFresh, History, events}
-use Rattle.machine.proofs.SlotLaws.{any-slot, all-holds}
+use Rattle.machine.proofs.SlotLaws.{all-holds}
 use Rattle.machine.proofs.ClaimLaws.{on}
 use Rattle.machine.proofs.Links.{Link}
-use Rattle.machine.proofs.Invariant.{Linked, holds-own}
+use Rattle.machine.proofs.Invariant.{Linked, held-once}
+use Rattle.machine.proofs.ConflictLaws.{seen-free}
 use Rattle.machine.proofs.Demand3.{not-fresh, history-linked, fresh-linked, fresh-accepted}
-use Rattle.machine.proofs.Acceptance.{Admitted, sound, sound-record, free-sound, past-later, row, ask-accepted, tick-accepted, packet-accepted, drop-accepted}
+use Rattle.machine.proofs.Acceptance.{Admitted, Sound, sound, sound-record, free-sound, past-later, row, ask-accepted, tick-accepted, packet-accepted, drop-accepted}
 
 -- What a sound state has, with each address in one slot only, makes it sound.
-held-once : (records : List Record) →
-    ((address : Ipv4Address) (slot other : ℕ) → holds address (recordAt records slot) ≡ true → holds address (recordAt records other) ≡ true → slot ≡ other) →
-    holdsNoneTwice records ≡ true
-unfolding holdsNoneTwice
-held-once [] once = refl
-held-once (r ∷ records) once =
-    rw (held-once records (λ address slot other h k. suc-inj (once address (suc slot) (suc other) h k))) (go (isFree r) refl (isHeld (r .address) records) refl)
-  where
-    go : (f : Bool) → isFree r ≡ f → (h : Bool) → isHeld (r .address) records ≡ h → ((f || not h) && true) ≡ true
-    go true f h e = refl
-    go false f true e =
-        let w = any-slot (holds (r .address)) records e in
-        absurd (suc-ne-zero (w .0) (sym (once (r .address) zero (suc (w .0)) (holds-own r f) (w .1))))
-    go false f false e = refl
-
-pub record Steady (s : Interface) : Type 0 where
-  pub own : isOwnHardware (s .hardware) ≡ true
-  pub inRange : s .latest .0 ≤ lastTime
-  pub requested : isPast (s .latest) (s .request) ≡ true
-  pub eachSound : all (isSoundRecord (s .latest)) (s .records) ≡ true
-
 link-once : (address : Ipv4Address) (records : List Record) (claims : List Claim) → Link address records claims → (slot other : ℕ) →
     holds address (recordAt records slot) ≡ true → holds address (recordAt records other) ≡ true → slot ≡ other
 link-once address records claims (inl away) slot other h k = absurd (false≢true (sym (away .nowhere slot) ∙ h))
 link-once address records claims (inr here) slot other h k = here .onlyHere slot h ∙ sym (here .onlyHere other k)
 
-linked-sound : (own : HardwareAddress) (s : Interface) (claims : List Claim) (asks : List ℕ) → Linked own s claims asks → Steady s → isSound s ≡ true
+linked-sound : (own : HardwareAddress) (s : Interface) (claims : List Claim) (asks : List ℕ) → Linked own s claims asks → Sound s → isSound s ≡ true
 unfolding isSound
 linked-sound own s claims asks linked steady =
-    let count = linked .count in
     rw (
       steady .own,
       le-leb (s .latest .0) lastTime (steady .inRange),
-      le-leb (s .conflicts) (rfc5227 .maxConflicts) (omega arith),
+      le-leb (s .conflicts) (rfc5227 .maxConflicts) (steady .counted),
       steady .requested,
       steady .eachSound,
       held-once (s .records) (λ address. link-once address (s .records) (on address claims) (linked .links address)),
@@ -172,14 +150,14 @@ seen-sound t (Settled conflict) e = le-leb (t .0) (t .0) (omega arith)
 
 -- A held record whose stage alone changes, soundly, stays sound; a free one is sound whatever it holds.
 restaged-sound : (t : Time) (r : Record) (stage : Stage) → isSoundRecord t r ≡ true → (isSoundStage t (r .stage) ≡ true → isSoundStage t stage ≡ true) →
-    (isFree r ≡ true → isFreeStage stage ≡ true) → isSoundRecord t (record { address = r .address; policy = r .policy; stage = stage }) ≡ true
+    (isFree r ≡ true → isFreeStage stage ≡ true) → isSoundRecord t (withStage r stage) ≡ true
 restaged-sound t r stage e changes stays = go (isFree r) refl
   where
-    go : (b : Bool) → isFree r ≡ b → isSoundRecord t (record { address = r .address; policy = r .policy; stage = stage }) ≡ true
-    go true free = free-record t (record { address = r .address; policy = r .policy; stage = stage }) (stays free)
+    go : (b : Bool) → isFree r ≡ b → isSoundRecord t (withStage r stage) ≡ true
+    go true free = free-record t (withStage r stage) (stays free)
     go false held =
         let w = sound-record t r e held in
-        taken-record t (record { address = r .address; policy = r .policy; stage = stage }) (changes (w .soundStage)) (w .allowed) (w .known)
+        taken-record t (withStage r stage) (changes (w .soundStage)) (w .allowed) (w .known)
 
 service-free : (own : HardwareAddress) (address : Ipv4Address) (t : Time) (draw : ℕ) (stage : Stage) → isFreeStage stage ≡ true →
     isFreeStage (serviceAt own address t draw stage .stage) ≡ true
@@ -188,11 +166,12 @@ service-free own address t draw (Probing sent deadline) e = absurd (false≢true
 service-free own address t draw (Announced deadline conflict) e = absurd (false≢true e)
 service-free own address t draw (Settled conflict) e = absurd (false≢true e)
 
-seen-free : (t : Time) (stage : Stage) → isFreeStage stage ≡ true → isFreeStage (seenAt t stage) ≡ true
-seen-free t Free e = refl
-seen-free t (Probing sent deadline) e = absurd (false≢true e)
-seen-free t (Announced deadline conflict) e = absurd (false≢true e)
-seen-free t (Settled conflict) e = absurd (false≢true e)
+counted-up : (count : ℕ) → count ≤ rfc5227 .maxConflicts → countUp count ≤ rfc5227 .maxConflicts
+counted-up count few = go (eqb count (rfc5227 .maxConflicts)) refl
+  where
+    go : (b : Bool) → eqb count (rfc5227 .maxConflicts) ≡ b → cond b count (suc count) ≤ rfc5227 .maxConflicts
+    go true e = few
+    go false e = let less = eqb-false count (rfc5227 .maxConflicts) e in omega arith
 
 module _ (s : Interface) (t : Time) (admission : Admitted s t) where
   records-later : all (isSoundRecord t) (s .records) ≡ true
@@ -202,75 +181,79 @@ module _ (s : Interface) (t : Time) (admission : Admitted s t) where
   record-sound slot = all-holds (isSoundRecord t) (s .records) slot (free-sound t) records-later
 
   -- The state after an accepted call, with these records.
-  steady-with : (request : Moment) (count : ℕ) (records : List Record) → isPast t request ≡ true → all (isSoundRecord t) records ≡ true →
-      Steady (record { hardware = s .hardware; latest = t; request = request; conflicts = count; records = records })
-  steady-with request count records past each =
-      record { own = sound s (admission .sound) .own; inRange = admission .inRange; requested = past; eachSound = each }
+  steady-with : (request : Moment) (count : ℕ) (records : List Record) → count ≤ rfc5227 .maxConflicts → isPast t request ≡ true → all (isSoundRecord t) records ≡ true →
+      Sound (record { hardware = s .hardware; latest = t; request = request; conflicts = count; records = records })
+  steady-with request count records few past each =
+      record { own = sound s (admission .sound) .own; inRange = admission .inRange; counted = few; requested = past; eachSound = each }
+
+  few-conflicts : s .conflicts ≤ rfc5227 .maxConflicts
+  few-conflicts = sound s (admission .sound) .counted
 
   request-past : isPast t (s .request) ≡ true
   request-past = past-later (s .latest) t (s .request) (admission .notBefore) (sound s (admission .sound) .requested)
 
-  steady-set : (count slot : ℕ) (new : Record) → isSoundRecord t new ≡ true →
-      Steady (record { hardware = s .hardware; latest = t; request = s .request; conflicts = count; records = set (s .records) slot new })
-  steady-set count slot new e =
-      steady-with (s .request) count (set (s .records) slot new) request-past (all-set (isSoundRecord t) (s .records) slot new e records-later)
+  steady-set : (count slot : ℕ) (new : Record) → count ≤ rfc5227 .maxConflicts → isSoundRecord t new ≡ true →
+      Sound (record { hardware = s .hardware; latest = t; request = s .request; conflicts = count; records = set (s .records) slot new })
+  steady-set count slot new few e =
+      steady-with (s .request) count (set (s .records) slot new) few request-past (all-set (isSoundRecord t) (s .records) slot new e records-later)
 
-  steady-same : Steady (record { hardware = s .hardware; latest = t; request = s .request; conflicts = s .conflicts; records = s .records })
-  steady-same = steady-with (s .request) (s .conflicts) (s .records) request-past records-later
+  steady-same : Sound (record { hardware = s .hardware; latest = t; request = s .request; conflicts = s .conflicts; records = s .records })
+  steady-same = steady-with (s .request) (s .conflicts) (s .records) few-conflicts request-past records-later
 
-  tick-steady : (draw : ℕ) (o : Option ℕ) → Steady (serve s t draw o .state)
+  tick-steady : (draw : ℕ) (o : Option ℕ) → Sound (serve s t draw o .state)
   unfolding service
   tick-steady draw none = steady-same
   tick-steady draw (some slot) =
       let r = recordAt (s .records) slot in
-      steady-set (s .conflicts) slot (record { address = r .address; policy = r .policy; stage = serviceAt (s .hardware) (r .address) t draw (r .stage) .stage })
+      steady-set (s .conflicts) slot (withStage r (serviceAt (s .hardware) (r .address) t draw (r .stage) .stage)) few-conflicts
       (restaged-sound t r (serviceAt (s .hardware) (r .address) t draw (r .stage) .stage) (record-sound slot)
       (served-sound (s .hardware) (r .address) t draw (r .stage)) (service-free (s .hardware) (r .address) t draw (r .stage)))
 
   after-sound : (chosen : Response) (r : Record) → isSoundRecord t r ≡ true → isSoundRecord t (recordAfter chosen t r) ≡ true
   after-sound Lose r e = free-sound t
-  after-sound Defend r e = restaged-sound t r (seenAt t (r .stage)) e (seen-sound t (r .stage)) (seen-free t (r .stage))
-  after-sound Keep r e = restaged-sound t r (seenAt t (r .stage)) e (seen-sound t (r .stage)) (seen-free t (r .stage))
+  after-sound Defend r e = restaged-sound t r (seenAt t (r .stage)) e (seen-sound t (r .stage)) (λ free. seen-free t (r .stage) ∙ free)
+  after-sound Keep r e = restaged-sound t r (seenAt t (r .stage)) e (seen-sound t (r .stage)) (λ free. seen-free t (r .stage) ∙ free)
 
-  packet-steady : (f : Frame) (o : Option ℕ) → Steady (meet s t f o .state)
+  packet-steady : (f : Frame) (o : Option ℕ) → Sound (meet s t f o .state)
   packet-steady f none = steady-same
   packet-steady f (some slot) =
       let r = recordAt (s .records) slot in
-      steady-set (countUp (s .conflicts)) slot (recordAfter (response t r) t r) (after-sound (response t r) r (record-sound slot))
+      steady-set (countUp (s .conflicts)) slot (recordAfter (response t r) t r) (counted-up (s .conflicts) few-conflicts) (after-sound (response t r) r (record-sound slot))
 
   ask-steady : (address : Ipv4Address) (policy draw : ℕ) (o : Option ℕ) → isAllowed address ≡ true → isPolicy policy ≡ true →
-      all (isSoundRecord t) (putAt (s .records) o (record { address = address; policy = policy; stage = Probing 0 (after t (wait draw)) })) ≡ true
+      all (isSoundRecord t) (putAt (s .records) o (newClaim t address policy draw)) ≡ true
   unfolding isSoundStage
   ask-steady address policy draw none allowed known = records-later
   ask-steady address policy draw (some slot) allowed known =
-      all-set (isSoundRecord t) (s .records) slot (record { address = address; policy = policy; stage = Probing 0 (after t (wait draw)) })
-      (taken-record t (record { address = address; policy = policy; stage = Probing 0 (after t (wait draw)) })
+      all-set (isSoundRecord t) (s .records) slot (newClaim t address policy draw)
+      (taken-record t (newClaim t address policy draw)
       (rw (le-leb 0 (rfc5227 .probeNum) (omega arith)) (due-near t (wait draw) (omega arith))) allowed known)
       records-later
 
-call-steady : (s : Interface) (call : Call) → isFresh call ≡ false → refusalOf s call ≡ none → Steady (outcomeOf s call .state)
+call-steady : (s : Interface) (call : Call) → isFresh call ≡ false → refusalOf s call ≡ none → Sound (outcomeOf s call .state)
 unfolding refusalOf outcomeOf askOutcome tickOutcome packetOutcome dropOutcome
 call-steady s (fresh hardware) old e = absurd (true≢false old)
 call-steady s (ask t address policy draw) old e =
     let w = ask-accepted s t address policy e in
     let o = lowest isFree (s .records) in
     steady-with s t (w .admission) (At t) (s .conflicts)
-    (putAt (s .records) o (record { address = address; policy = policy; stage = Probing 0 (after t (wait draw)) }))
+    (putAt (s .records) o (newClaim t address policy draw)) (few-conflicts s t (w .admission))
     (le-leb (t .0) (t .0) (omega arith)) (ask-steady s t (w .admission) address policy draw o (w .allowed) (w .known))
-call-steady s (tick t draw out) old e = tick-steady s t (tick-accepted s t (length out) e) draw (dueSlot t (s .records))
+call-steady s (tick t draw out) old e = tick-steady s t (tick-accepted s t (length out) e .0) draw (dueSlot t (s .records))
 call-steady s (packet t bytes out) old e =
     packet-steady s t (packet-accepted s t bytes (length out) e) (frameOf bytes) (lowest (isConflict (s .hardware) (frameOf bytes)) (s .records))
 call-steady s (drop t slot) old e =
-    steady-set s t (drop-accepted s t slot e .0) (s .conflicts) slot freeRecord (free-sound t)
+    let admission = drop-accepted s t slot e .0 in
+    steady-set s t admission (s .conflicts) slot freeRecord (few-conflicts s t admission) (free-sound t)
 
-fresh-steady : (own : HardwareAddress) → freshRefusal own ≡ none → Steady (freshOutcome own .state)
+fresh-steady : (own : HardwareAddress) → freshRefusal own ≡ none → Sound (freshOutcome own .state)
 unfolding freshOutcome freshRefusal all isSoundRecord
 fresh-steady own e =
-    record { own = not-false (isOwnHardware own) (row 2 (not (isOwnHardware own)) none e .0); inRange = omega arith; requested = refl; eachSound = refl }
+    record { own = not-false (isOwnHardware own) (row 2 (not (isOwnHardware own)) none e .0); inRange = omega arith; counted = omega arith; requested = refl; eachSound = refl }
 
 -- An accepted fresh, and every step after it, leave a sound state.
 step-sound : (before : Interface) (step : Step) → Promised before (step .call) (step .answer) (step .state) (step .out) →
-    isNextFresh step ≡ false → Steady before → Steady (step .state)
+    isNextFresh step ≡ false → Sound before → Sound (step .state)
 unfolding resultOf
 step-sound before step promised old steady =
     go (refusalOf before (step .call)) refl (answerReport (step .answer)) (promised .answered) (promised .handedBack) old
@@ -278,12 +261,12 @@ step-sound before step promised old steady =
     go : (refusal : Option ℕ) → refusalOf before (step .call) ≡ refusal → (report : Report Accepted) →
         report ≡ resultAs refusal before (lent (step .call)) (outcomeOf before (step .call)) .report →
         step .state ≡ resultAs refusal before (lent (step .call)) (outcomeOf before (step .call)) .state →
-        (isFresh (step .call) && isAccepted report) ≡ false → Steady (step .state)
+        (isFresh (step .call) && isAccepted report) ≡ false → Sound (step .state)
     go none e report answered kept old =
-        subst Steady (sym kept) (call-steady before (step .call) (not-fresh (isFresh (step .call)) (rw answered at old)) e)
-    go (some n) e report answered kept old = subst Steady (sym kept) steady
+        subst Sound (sym kept) (call-steady before (step .call) (not-fresh (isFresh (step .call)) (rw answered at old)) e)
+    go (some n) e report answered kept old = subst Sound (sym kept) steady
 
-history-steady : (start : Interface) → Steady start → (steps : List Step) → History start steps → Steady (stateAfter start steps)
+history-steady : (start : Interface) → Sound start → (steps : List Step) → History start steps → Sound (stateAfter start steps)
 unfolding History
 history-steady start begun [] h = begun
 history-steady start begun (step ∷ earlier) h =
@@ -294,6 +277,6 @@ pub always-sound : (own : HardwareAddress) (before start : Interface) (answer : 
 always-sound own before start answer promised taken steps history =
     let facts = fresh-accepted own before start answer promised taken in
     let linked : Linked own start [] [] = rw (facts .1) (fresh-linked own) in
-    let steady : Steady start = rw (facts .1) (fresh-steady own (facts .0)) in
+    let steady : Sound start = rw (facts .1) (fresh-steady own (facts .0)) in
     linked-sound own (stateAfter start steps) (claimsOf own (events steps)) (asksAfterTenth own (events steps))
     (history-linked own start linked steps history) (history-steady start steady steps history)

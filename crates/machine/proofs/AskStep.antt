@@ -15,13 +15,12 @@ use Rattle.rules.specs.declared.HardwareAddress.{HardwareAddress}
 use Rattle.rules.specs.declared.Time.{Time}
 use Rattle.rules.specs.declared.Moment.{Moment}
 use Rattle.rules.specs.declared.Moment.the-variants.{Never, At}
-use Rattle.rules.specs.declared.Stage.the-variants.{Probing}
 use Rattle.rules.specs.declared.Record.{Record}
 use Rattle.rules.specs.declared.Interface.{Interface}
-use Rattle.machine.specs.Timing.{rfc5227, wait, after, isWithin}
+use Rattle.machine.specs.Timing.{rfc5227, wait, isWithin}
 use Rattle.machine.specs.Slots.{recordAt, lowest}
 use Rattle.machine.specs.Interface.{isFree, holds}
-use Rattle.machine.specs.Calls.{ask, askOutcome}
+use Rattle.machine.specs.Calls.{ask, newClaim, askOutcome}
 use Rattle.machine.specs.Refusals.{askRefusal}
 use Rattle.machine.specs.Claims.{Claim, claimsAfter, conflicts, conflictCount}
 use Rattle.machine.specs.Demand3.{Spaced, IsAfter}
@@ -49,7 +48,7 @@ module _ (own : HardwareAddress) (s : Interface) (claims : List Claim) (asks : L
     (time : Time) (address : Ipv4Address) (policy draw slot : ℕ) (accepted : AskAccepted s time address policy)
     (lowestFree : lowest isFree (s .records) ≡ some slot) where
   new : Record
-  new = record { address = address; policy = policy; stage = Probing 0 (after time (wait draw)) }
+  new = newClaim time address policy draw
 
   claim : Claim
   claim = record { address = address; policy = policy; slot = some slot; marks = [] }

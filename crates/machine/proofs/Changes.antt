@@ -6,7 +6,7 @@ use mathlib.Core.Logic.{inl, inr}
 use Rattle.rules.specs.declared.Ipv4Address.{Ipv4Address}
 use Rattle.rules.specs.declared.Record.{Record}
 use Rattle.machine.specs.Slots.{recordAt}
-use Rattle.machine.specs.Claims.{Mark, Claim, isOpen, isOn, marked}
+use Rattle.machine.specs.Claims.{Mark, Claim, isOpen, isOn, marked, markedIf}
 use Rattle.machine.specs.Demand3.{Each}
 use Rattle.machine.proofs.ClaimLaws.{on, on-map, each-map, map-same}
 use Rattle.machine.proofs.Links.{Closed, Here, Link}
@@ -15,7 +15,7 @@ use Rattle.machine.proofs.Invariant.{agrees-open}
 -- Each open claim of which a test holds gets a mark.
 module _ (test : Claim → Bool) (mark : Mark) where
   abbrev pub changed : Claim → Claim
-  changed c = cond (isOpen c && test c) (marked mark c) c
+  changed c = markedIf (test c) mark c
 
   changed-on : (address : Ipv4Address) (c : Claim) → isOn address (changed c) ≡ isOn address c
   changed-on address c = go (isOpen c && test c)

@@ -1,11 +1,13 @@
 -- A conflict with a record is one with its claim, and at most one record is concerned.
 use Prim.Native.Nat.{ℕ, _<_}
-use mathlib.Core.Path.{_≡_, refl, sym, _∙_}
+use mathlib.Core.Path.{_≡_, refl, sym, _∙_, subst}
 use mathlib.Core.Bool.{Bool, true, false, not, cond, _&&_, _||_, false≢true, or-false}
 use native.Mathlib.Omega.{arith}
 use lib.Dec.{eqb}
 use borrow.Author.Tests.{eqb-true, ne-eqb}
+use Rattle.rules.specs.declared.Ipv4Address.{Ipv4Address}
 use Rattle.rules.specs.declared.HardwareAddress.{HardwareAddress}
+use Rattle.rules.specs.declared.Time.{Time}
 use Rattle.rules.specs.declared.Frame.{Frame}
 use Rattle.rules.specs.declared.Stage.{Stage}
 use Rattle.rules.specs.declared.Stage.the-variants.{Free, Probing, Announced, Settled}
@@ -13,12 +15,20 @@ use Rattle.rules.specs.declared.Record.{Record}
 use Rattle.rules.specs.declared.Interface.{Interface}
 use Rattle.rules.proofs.BytesLaws.{and-both}
 use Rattle.machine.specs.Slots.{recordAt}
-use Rattle.machine.specs.Interface.{isOurs, isFree, isFreeStage, isSound}
-use Rattle.machine.specs.Conflicts.{isFrom, probesFor, isConflictAt, isConflict}
+use Rattle.machine.specs.Interface.{isOurs, isFree, isFreeStage, holds, isSound}
+use Rattle.machine.specs.Conflicts.{isFrom, probesFor, isConflictAt, isConflict, seenAt}
 use Rattle.machine.specs.Claims.{Claim, isConflictWith}
-use Rattle.machine.proofs.Acceptance.{sound-at, allowed-number}
+use Rattle.machine.proofs.Acceptance.{sound-once, sound-at, allowed-number}
 use Rattle.machine.proofs.Stories.{untouched}
 use Rattle.machine.proofs.Links.{Story, Agrees}
+use Rattle.machine.proofs.Invariant.{same-address, holds-own, held-in-one}
+
+-- A conflict that was seen neither frees a slot nor fills one.
+pub seen-free : (t : Time) (stage : Stage) → isFreeStage (seenAt t stage) ≡ isFreeStage stage
+seen-free t Free = refl
+seen-free t (Probing sent deadline) = refl
+seen-free t (Announced deadline conflict) = refl
+seen-free t (Settled conflict) = refl
 
 -- The observer's test with a claim not in use, and with one in use, as tests alone.
 tests-before-use : (from request zero target strange : Bool) →
@@ -91,11 +101,15 @@ module _ (own : HardwareAddress) (f : Frame) where
       go (Announced deadline conflict) e = refl
       go (Settled conflict) e = refl
 
-  -- "At most one record can be concerned": two records of a sound state that a packet is a conflict with have one address.
+  -- "At most one record can be concerned": two slots of a sound state with which a packet is a conflict are one.
   pub one-concerned : (s : Interface) (slot other : ℕ) → isSound s ≡ true →
-      isConflict own f (recordAt (s .records) slot) ≡ true → isConflict own f (recordAt (s .records) other) ≡ true →
-      recordAt (s .records) slot .address .0 ≡ recordAt (s .records) other .address .0
-  one-concerned s slot other sound e d = at slot e ∙ sym (at other d)
+      isConflict own f (recordAt (s .records) slot) ≡ true → isConflict own f (recordAt (s .records) other) ≡ true → slot ≡ other
+  one-concerned s slot other sound e d =
+      held-in-one (s .records) (recordAt (s .records) other .address) slot other (sound-once s sound)
+        (subst (λ (a : Ipv4Address). holds a (recordAt (s .records) slot) ≡ true)
+          (same-address (recordAt (s .records) slot .address) (recordAt (s .records) other .address) (at slot e ∙ sym (at other d)))
+          (holds-own (recordAt (s .records) slot) (conflict-held (recordAt (s .records) slot) e)))
+        (holds-own (recordAt (s .records) other) (conflict-held (recordAt (s .records) other) d))
     where
       at : (n : ℕ) → isConflict own f (recordAt (s .records) n) ≡ true → recordAt (s .records) n .address .0 ≡ concerned
       at n e =

@@ -12,8 +12,8 @@ use lib.ListN.{length}
 use borrow.Author.Tests.{leb-true, leb-false, eqb-true, eq-eqb}
 use Rattle.rules.specs.declared.Time.{Time}
 use Rattle.rules.specs.declared.Record.{Record}
-use Rattle.machine.specs.Slots.{recordAt, lowestFrom, lowest}
-use Rattle.machine.specs.Deadlines.{deadlineOf, isDeadline, hasDeadline, smaller, smallestDeadline, dueAt, dueSlot}
+use Rattle.machine.specs.Slots.{recordAt, lowestFrom, lowest, isJust}
+use Rattle.machine.specs.Deadlines.{deadlineOf, hasDeadline, smaller, smallestDeadline, dueAt, dueSlot}
 use Rattle.machine.proofs.SlotLaws.{none≢some, lowest-holds, lowest-below}
 
 -- The deadline in a slot.
@@ -47,12 +47,12 @@ smallest-below (r ∷ records) (suc slot) d e =
     smaller-right (deadlineOf (r .stage)) (smallestDeadline records) d (smallest-below records slot d e)
 
 -- Some slot has the smallest deadline.
-has-smaller : (o rest : Option ℕ) (m : ℕ) → smaller o rest ≡ some m → (isDeadline m o ≡ true) ⊎ (rest ≡ some m)
+has-smaller : (o rest : Option ℕ) (m : ℕ) → smaller o rest ≡ some m → (isJust m o ≡ true) ⊎ (rest ≡ some m)
 has-smaller none rest m e = inr e
 has-smaller (some c) none m e = inl (eq-eqb c m (some-inj e))
 has-smaller (some c) (some r) m e = go (leb c r) refl
   where
-    go : (b : Bool) → leb c r ≡ b → (isDeadline m (some c) ≡ true) ⊎ (some r ≡ some m)
+    go : (b : Bool) → leb c r ≡ b → (isJust m (some c) ≡ true) ⊎ (some r ≡ some m)
     go true le = let same = some-inj e in let h = leb-true c r le in inl (eq-eqb c m (omega arith))
     go false le = let same = some-inj e in let h = leb-false c r le in inr (ap some (omega arith))
 
@@ -72,11 +72,11 @@ smallest-somewhere n (r ∷ records) m e nowhere =
     go later false h nowhere (inr rest) = later rest nowhere
 
 -- The deadline that a test found.
-deadline-is : (o : Option ℕ) (d : ℕ) → isDeadline d o ≡ true → o ≡ some d
+deadline-is : (o : Option ℕ) (d : ℕ) → isJust d o ≡ true → o ≡ some d
 deadline-is none d e = absurd (false≢true e)
 deadline-is (some c) d e = ap some (eqb-true c d e)
 
-is-deadline : (o : Option ℕ) (d : ℕ) → o ≡ some d → isDeadline d o ≡ true
+is-deadline : (o : Option ℕ) (d : ℕ) → o ≡ some d → isJust d o ≡ true
 is-deadline none d e = absurd (none≢some e)
 is-deadline (some c) d e = eq-eqb c d (some-inj e)
 

@@ -12,11 +12,11 @@ use Rattle.rules.specs.declared.HardwareAddress.{HardwareAddress}
 use Rattle.rules.specs.declared.Time.{Time}
 use Rattle.rules.specs.declared.Record.{Record}
 use Rattle.rules.specs.declared.Interface.{Interface}
-use Rattle.machine.specs.Slots.{recordAt, freeRecord}
+use Rattle.machine.specs.Slots.{recordAt, freeRecord, isJust}
 use Rattle.machine.specs.Interface.{isFree, holds}
 use Rattle.machine.specs.Calls.{drop, dropOutcome}
 use Rattle.machine.specs.Refusals.{dropRefusal}
-use Rattle.machine.specs.Claims.{Claim, dropped, marked, isOpen, isSlot, released, claimsAfter, conflicts}
+use Rattle.machine.specs.Claims.{Claim, dropped, marked, isOpen, released, claimsAfter, conflicts}
 use Rattle.machine.proofs.SlotLaws.{slot-bound}
 use Rattle.machine.proofs.Acceptance.{drop-accepted}
 use Rattle.machine.proofs.ClaimLaws.{on}
@@ -34,7 +34,7 @@ module _ (own : HardwareAddress) (s : Interface) (claims : List Claim) (asks : L
   room = slot-bound (λ (q : Record). not (isFree q)) (s .records) slot refl (rw held)
 
   inSlot : Claim → Bool
-  inSlot c = isSlot slot (c .slot)
+  inSlot c = isJust slot (c .slot)
 
   -- The address of the slot: its claim is over.
   drop-here : Link (r .address) (set (s .records) slot freeRecord) (on (r .address) (map (released time slot) claims))
@@ -78,7 +78,7 @@ module _ (own : HardwareAddress) (s : Interface) (claims : List Claim) (asks : L
 
   drop-conflicts : (c : Claim) → conflicts (released time slot c .marks) ≡ conflicts (c .marks)
   unfolding conflicts
-  drop-conflicts c = go (isOpen c && isSlot slot (c .slot))
+  drop-conflicts c = go (isOpen c && isJust slot (c .slot))
     where
       go : (b : Bool) → conflicts (cond b (marked (dropped time) c) c .marks) ≡ conflicts (c .marks)
       go true = refl

@@ -1,13 +1,14 @@
 -- What links the state to what was seen, after every history.
-use Prim.Native.Nat.{ℕ, _+_, _≤_, min}
-use mathlib.Core.Path.{_≡_, refl, sym, _∙_, subst}
-use mathlib.Core.Bool.{Bool, true, false, not, cond, _&&_, false≢true}
+use Prim.Native.Nat.{ℕ, zero, suc, _+_, _≤_, min}
+use mathlib.Core.Path.{_≡_, refl, sym, ap, _∙_, subst}
+use mathlib.Core.Bool.{Bool, true, false, not, cond, _&&_, false≢true, _||_}
 use mathlib.Core.List.{List, [], _∷_, map}
 use mathlib.Core.Logic.{inl, inr}
+use native.Mathlib.Nat.{suc-inj, suc-ne-zero}
 use native.Mathlib.Omega.{arith}
 use lib.Dec.{eqb}
 use lib.ListN.{length}
-use borrow.Author.Tests.{eqb-true, eqb-false, eq-eqb, ne-eqb}
+use borrow.Author.Tests.{not-true, eqb-true, eqb-false, eq-eqb, ne-eqb}
 use Rattle.rules.specs.Answers.{accepted}
 use Rattle.rules.specs.declared.Ipv4Address.{Ipv4Address}
 use Rattle.rules.specs.declared.HardwareAddress.{HardwareAddress}
@@ -20,11 +21,12 @@ use Rattle.rules.specs.declared.Interface.{Interface}
 use Rattle.rules.proofs.BytesLaws.{and-both}
 use Rattle.machine.specs.Timing.{rfc5227}
 use Rattle.machine.specs.Slots.{recordAt}
-use Rattle.machine.specs.Interface.{isFree, holds}
+use Rattle.machine.specs.Interface.{isFree, holds, isHeld, holdsNoneTwice}
 use Rattle.machine.specs.Calls.{Call, Outcome}
 use Rattle.machine.specs.Machine.{lent, handedOut, acceptedAs}
 use Rattle.machine.specs.Claims.{claimsAfter, asksBy, Mark, Claim, isOpen, isOpenAfter, conflicts, conflictCount, marked, markedLatest, isOn}
 use Rattle.machine.specs.Demand3.{Spaced}
+use Rattle.machine.proofs.SlotLaws.{any-fails, any-slot}
 use Rattle.machine.proofs.ClaimLaws.{on}
 use Rattle.machine.proofs.Stories.{untouched, Bounded, probing-bounded, in-use-bounded}
 use Rattle.machine.proofs.Links.{Story, Agrees, Away, Here, Link}
@@ -87,6 +89,44 @@ held-address address r e =
     taken : (b : Bool) → not b ≡ true → b ≡ false
     taken true e = absurd (false≢true e)
     taken false e = refl
+
+-- "No address is held twice", slot by slot.
+pub held-once : (records : List Record) →
+    ((address : Ipv4Address) (slot other : ℕ) → holds address (recordAt records slot) ≡ true → holds address (recordAt records other) ≡ true → slot ≡ other) →
+    holdsNoneTwice records ≡ true
+unfolding holdsNoneTwice
+held-once [] once = refl
+held-once (r ∷ records) once =
+    rw (held-once records (λ address slot other h k. suc-inj (once address (suc slot) (suc other) h k))) (go (isFree r) refl (isHeld (r .address) records) refl)
+  where
+    go : (f : Bool) → isFree r ≡ f → (h : Bool) → isHeld (r .address) records ≡ h → ((f || not h) && true) ≡ true
+    go true f h e = refl
+    go false f true e =
+        let w = any-slot (holds (r .address)) records e in
+        absurd (suc-ne-zero (w .0) (sym (once (r .address) zero (suc (w .0)) (holds-own r f) (w .1))))
+    go false f false e = refl
+
+-- The head's address is in no slot of the rest.
+head-alone : (r : Record) (records : List Record) (address : Ipv4Address) (slot : ℕ) → holdsNoneTwice (r ∷ records) ≡ true →
+    holds address r ≡ true → holds address (recordAt records slot) ≡ true → ⊥
+unfolding holdsNoneTwice
+head-alone r records address slot e h k =
+    let first = held-address address r h in
+    let alone = and-both (isFree r || not (isHeld (r .address) records)) (holdsNoneTwice records) e .0 in
+    let absent : isHeld (r .address) records ≡ false = not-true (isHeld (r .address) records) (rw (first .0) at alone) in
+    let nowhere = any-fails (holds (r .address)) records slot refl absent in
+    false≢true (sym nowhere ∙ subst (λ (a : Ipv4Address). holds a (recordAt records slot) ≡ true) (same-address address (r .address) (sym (first .1))) k)
+
+pub held-in-one : (records : List Record) (address : Ipv4Address) (slot other : ℕ) → holdsNoneTwice records ≡ true →
+    holds address (recordAt records slot) ≡ true → holds address (recordAt records other) ≡ true → slot ≡ other
+unfolding holdsNoneTwice
+held-in-one [] address slot other e h k = absurd (false≢true h)
+held-in-one (r ∷ records) address zero zero e h k = refl
+held-in-one (r ∷ records) address zero (suc other) e h k = absurd (head-alone r records address other e h k)
+held-in-one (r ∷ records) address (suc slot) zero e h k = absurd (head-alone r records address slot e k h)
+held-in-one (r ∷ records) address (suc slot) (suc other) e h k =
+    ap suc (held-in-one records address slot other
+      (and-both (isFree r || not (isHeld (r .address) records)) (holdsNoneTwice records) e .1) h k)
 
 -- An address that is in a slot: its claims, and that the link's slot is this one.
 pub linked-here : (address : Ipv4Address) (records : List Record) (claims : List Claim) (slot : ℕ) →

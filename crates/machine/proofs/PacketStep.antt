@@ -25,8 +25,8 @@ use Rattle.rules.specs.declared.Response.{Response}
 use Rattle.rules.specs.declared.Response.the-variants.{Lose, Defend, Keep}
 use Rattle.rules.proofs.BytesLaws.{and-both}
 use Rattle.machine.specs.Timing.{rfc5227}
-use Rattle.machine.specs.Slots.{recordAt, freeRecord, lowest}
-use Rattle.machine.specs.Interface.{isFree, isFreeStage, holds, isPast, isNear, isSoundStage}
+use Rattle.machine.specs.Slots.{recordAt, freeRecord, withStage, lowest}
+use Rattle.machine.specs.Interface.{isFree, holds, isPast, isNear, isSoundStage}
 use Rattle.machine.specs.Conflicts.{isConflict, countUp, byPolicy, responseAt, response, seenAt}
 use Rattle.machine.specs.Calls.{packet, respond, meet, packetOutcome}
 use Rattle.machine.specs.Refusals.{packetRefusal}
@@ -38,7 +38,7 @@ use Rattle.machine.proofs.ClaimLaws.{on, on-each, each-map, on-marked, 
 use Rattle.machine.proofs.Stories.{untouched, Bounded, InUse, conflict-borne, defence-sent, bounded-conflicted, ended-before-use, ended-by-surrender, lost-surrenders, defended-bears, kept-bears}
 use Rattle.machine.proofs.Links.{Story, Agrees, Closed, Here, Link, link-elsewhere, link-goes-on, link-over}
 use Rattle.machine.proofs.Invariant.{LastAsk, agrees-open, Linked, LinkedAfter, last-ask-counts, by-address, holds-own, holds-no-other, held-address, linked-here, agrees-bounded, count-marked}
-use Rattle.machine.proofs.ConflictLaws.{agrees-conflict, conflict-held, one-concerned}
+use Rattle.machine.proofs.ConflictLaws.{seen-free, agrees-conflict, conflict-held, one-concerned}
 use Rattle.machine.proofs.Changes.{on-changed, unconcerned-each, same-each, concerned-marked}
 
 abbrev isLose : Response → Bool
@@ -83,12 +83,6 @@ module _ (policy : ℕ) (latest t : Time) (later : latest .0 ≤ t .0) (marks : 
   defended-story (Announced deadline conflict) e sound story =
       defended-in-use conflict 1 story e (and-both (isNear latest deadline) (isPast latest conflict) sound .1)
   defended-story (Settled conflict) e sound story = defended-in-use conflict 2 story e sound
-
-seen-held : (t : Time) (stage : Stage) → isFreeStage stage ≡ false → isFreeStage (seenAt t stage) ≡ false
-seen-held t Free e = e
-seen-held t (Probing sent deadline) e = refl
-seen-held t (Announced deadline conflict) e = refl
-seen-held t (Settled conflict) e = refl
 
 -- The conflict count: one more for each claim that is hit.
 module _ (own : HardwareAddress) (t : Time) (f : Frame) where
@@ -198,8 +192,9 @@ module _ (own : HardwareAddress) (s : Interface) (claims : List Claim) (asks : L
     unfolding r
     hit-here address here e =
         here .agrees .sameAddress
-        ∙ one-concerned (s .hardware) f s (here .slot) slot (admission .sound)
-        (sym (agreed-conflict (here .slot) (here .latest) (here .agrees)) ∙ e) conflicting
+        ∙ ap (λ (n : ℕ). recordAt (s .records) n .address .0)
+        (one-concerned (s .hardware) f s (here .slot) slot (admission .sound)
+        (sym (agreed-conflict (here .slot) (here .latest) (here .agrees)) ∙ e) conflicting)
 
     spared-other : (other : Ipv4Address) → (other .0 ≡ r .address .0 → ⊥) → (here : Here other (s .records) (on other claims)) →
         isConflictWith own f (here .latest) ≡ false
@@ -305,11 +300,11 @@ module _ (own : HardwareAddress) (s : Interface) (claims : List Claim) (asks : L
 
       -- The record that a defence or a kept conflict leaves.
       seen : Record
-      seen = record { address = r .address; policy = r .policy; stage = seenAt t (r .stage) }
+      seen = withStage r (seenAt t (r .stage))
 
       seen-taken : isFree seen ≡ false
       unfolding seen
-      seen-taken = seen-held t (r .stage) held
+      seen-taken = seen-free t (r .stage) ∙ held
 
       kept : responseAt (r .policy) t (r .stage) ≡ Keep → LinkedAfter own claims asks (packet t bytes out) (respond s t slot r Keep)
       unfolding claimsAfter f r seen

@@ -22,7 +22,7 @@ use Rattle.rules.specs.declared.Stage.the-variants.{Free, Probing, Announced, S
 use Rattle.rules.specs.declared.Record.{Record}
 use Rattle.rules.specs.declared.Interface.{Interface}
 use Rattle.machine.specs.Timing.{rfc5227, after}
-use Rattle.machine.specs.Slots.{recordAt}
+use Rattle.machine.specs.Slots.{recordAt, withStage}
 use Rattle.machine.specs.Interface.{isOwnHardware, isAllowed, isFreeStage, isFree}
 use Rattle.machine.specs.Deadlines.{deadlineOf, dueSlot}
 use Rattle.machine.specs.Calls.{tick, Service, serviceAt, service, serve, tickOutcome}
@@ -121,7 +121,7 @@ module _ (own : HardwareAddress) (s : Interface) (claims : List Claim) (asks : L
     served = service (s .hardware) time draw r
 
     new : Record
-    new = record { address = r .address; policy = r .policy; stage = served .stage }
+    new = withStage r (served .stage)
 
     -- A record with a deadline is not free.
     held : isFree r ≡ false
@@ -200,7 +200,7 @@ unfolding tickOutcome r
 tick-step own s claims asks linked time draw out e = go (dueSlot time (s .records)) refl
   where
     admission : Admitted s time
-    admission = tick-accepted s time (length out) e
+    admission = tick-accepted s time (length out) e .0
 
     go : (o : Option ℕ) → dueSlot time (s .records) ≡ o →
         LinkedAfter own claims asks (tick time draw out) (serve s time draw o)

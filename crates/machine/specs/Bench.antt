@@ -47,32 +47,33 @@ unfoldable pub answers : Interface → List Call → List Seen
 answers s [] = []
 answers s (call ∷ later) = seenAnswer (resultOf s call .report) ∷ answers (resultOf s call .state) later
 
--- An interface with 192.0.2.7 in slot 0, and another machine.
 abbrev pub at : ℕ → Time
 at ms = record { 0 = ms }
 
+-- Our hardware address, another machine's, and 192.0.2.7.
 abbrev pub ours : HardwareAddress
 ours = record { 0 = 0x02000000000a }
 
 abbrev pub another : HardwareAddress
 another = record { 0 = 0x02000000000b }
 
-abbrev pub ward : Ipv4Address
-ward = record { 0 = 0xc0000207 }
+abbrev pub ipv4 : Ipv4Address
+ipv4 = record { 0 = 0xc0000207 }
 
-abbrev pub port : ℕ → Stage → ℕ → Moment → Interface
-port policy stage count request =
+-- An interface that holds 192.0.2.7 in slot 0, with this policy, stage, count and request.
+abbrev pub holding : ℕ → Stage → ℕ → Moment → Interface
+holding policy stage count request =
     record {
       hardware = ours;
       latest = at 10_000;
       request = request;
       conflicts = count;
-      records = record { address = ward; policy = policy; stage = stage } ∷ freeRecord ∷ freeRecord ∷ freeRecord ∷ [];
+      records = record { address = ipv4; policy = policy; stage = stage } ∷ freeRecord ∷ freeRecord ∷ freeRecord ∷ [];
     }
 
 -- Another machine's announcement of our address, at each of these times.
 abbrev pub conflictAt : ℕ → Call
-conflictAt ms = packet (at ms) (frameBytes (announcement another ward)) (replicate 28 0)
+conflictAt ms = packet (at ms) (frameBytes (announcement another ipv4)) (replicate 28 0)
 
 pub record Case : Type 0 where
   pub rules : List Seen
@@ -92,17 +93,17 @@ cases =
     ∷ record { rules = seenClock (clockOf 0 2_147_483_648) ∷ []; paper = stays (negsuc 2_147_483_647) 4 ∷ [] }
     -- W6 "policy 2, conflicts at 20,000 and 29,999: defend, lost"
     ∷ record {
-      rules = answers (port 2 (Settled Never) 0 Never) (map conflictAt (20_000 ∷ 29_999 ∷ []));
+      rules = answers (holding 2 (Settled Never) 0 Never) (map conflictAt (20_000 ∷ 29_999 ∷ []));
       paper = kind Defend ∷ kind Lost ∷ [];
     }
     -- W7 "the same at 20,000 and 30,000: defend twice"
     ∷ record {
-      rules = answers (port 2 (Settled Never) 0 Never) (map conflictAt (20_000 ∷ 30_000 ∷ []));
+      rules = answers (holding 2 (Settled Never) 0 Never) (map conflictAt (20_000 ∷ 30_000 ∷ []));
       paper = kind Defend ∷ kind Defend ∷ [];
     }
     -- W8 "policy 3 at 20,000, 29,999, 35,000, 45,000: defend, kept, kept, defend"
     ∷ record {
-      rules = answers (port 3 (Settled Never) 0 Never) (map conflictAt (20_000 ∷ 29_999 ∷ 35_000 ∷ 45_000 ∷ []));
+      rules = answers (holding 3 (Settled Never) 0 Never) (map conflictAt (20_000 ∷ 29_999 ∷ 35_000 ∷ 45_000 ∷ []));
       paper = kind Defend ∷ kind Kept ∷ kind Kept ∷ kind Defend ∷ [];
     }
     -- W9 "count 10, request at 100,000: an ask at 159,999 is 12, at 160,000 taken"
@@ -113,22 +114,22 @@ cases =
         request = At (at 100_000);
         conflicts = 10;
         records = freeRecord ∷ freeRecord ∷ freeRecord ∷ freeRecord ∷ [];
-      }) (ask (at 159_999) ward 1 0 ∷ ask (at 160_000) ward 1 0 ∷ []);
+      }) (ask (at 159_999) ipv4 1 0 ∷ ask (at 160_000) ipv4 1 0 ∷ []);
       paper = refusal 12 ∷ kind Taken ∷ [];
     }
     -- W10 "our own echoed probe: none"
     ∷ record {
-      rules = answers (port 2 (Probing 1 (at 11_000)) 0 Never) (packet (at 10_000) (frameBytes (probe ours ward)) (replicate 28 0) ∷ []);
+      rules = answers (holding 2 (Probing 1 (at 11_000)) 0 Never) (packet (at 10_000) (frameBytes (probe ours ipv4)) (replicate 28 0) ∷ []);
       paper = kind Nothing ∷ [];
     }
     -- W11 "another's probe for a settled address: none"
     ∷ record {
-      rules = answers (port 2 (Settled Never) 0 Never) (packet (at 10_000) (frameBytes (probe another ward)) (replicate 28 0) ∷ []);
+      rules = answers (holding 2 (Settled Never) 0 Never) (packet (at 10_000) (frameBytes (probe another ipv4)) (replicate 28 0) ∷ []);
       paper = kind Nothing ∷ [];
     }
     -- W12 "addresses 223.255.255.255 allowed, 224.0.0.0 refused with 8"
     ∷ record {
-      rules = answers (port 2 (Settled Never) 0 Never)
+      rules = answers (holding 2 (Settled Never) 0 Never)
           (ask (at 10_000) (record { 0 = 0xe0000000 }) 1 0 ∷ ask (at 10_000) (record { 0 = 0xdfffffff }) 1 0 ∷ []);
       paper = refusal 8 ∷ kind Taken ∷ [];
     }
@@ -168,7 +169,7 @@ abbrev pub WholeCase : Type 0
 WholeCase =
     lines zeros (
     fresh ours
-    ∷ ask (at 100) ward 2 500
+    ∷ ask (at 100) ipv4 2 500
     ∷ tick (at 599) 0 blank
     ∷ tick (at 600) 0 blank
     ∷ tick (at 1_600) 1_000 blank
@@ -178,8 +179,8 @@ WholeCase =
     ≡ line Fresh none none []
     ∷ line Taken (some 0) (some 600) []
     ∷ line Nothing none (some 600) blank
-    ∷ line Probe (some 0) (some 1_600) (frameBytes (probe ours ward))
-    ∷ line Probe (some 0) (some 3_600) (frameBytes (probe ours ward))
-    ∷ line Probe (some 0) (some 5_600) (frameBytes (probe ours ward))
-    ∷ line Announce (some 0) (some 7_600) (frameBytes (announcement ours ward))
+    ∷ line Probe (some 0) (some 1_600) (frameBytes (probe ours ipv4))
+    ∷ line Probe (some 0) (some 3_600) (frameBytes (probe ours ipv4))
+    ∷ line Probe (some 0) (some 5_600) (frameBytes (probe ours ipv4))
+    ∷ line Announce (some 0) (some 7_600) (frameBytes (announcement ours ipv4))
     ∷ []

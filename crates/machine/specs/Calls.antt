@@ -19,7 +19,7 @@ use Rattle.rules.specs.declared.Response.{Response}
 use Rattle.rules.specs.declared.Kind.{Kind}
 use Rattle.rules.specs.declared.Kind.the-variants.{Fresh, Taken, Nothing, Probe, Announce, Dropped}
 use Rattle.machine.specs.Timing.{rfc5227, wait, gap, after}
-use Rattle.machine.specs.Slots.{freeRecord, recordAt, putAt, lowest}
+use Rattle.machine.specs.Slots.{freeRecord, withStage, recordAt, putAt, lowest}
 use Rattle.machine.specs.Interface.{isFree}
 use Rattle.machine.specs.Deadlines.{dueSlot}
 use Rattle.machine.specs.Conflicts.{isConflict, countUp, response, recordAfter, defence, responseKind}
@@ -72,6 +72,10 @@ freshOutcome hardware =
 
 -- Ask: "takes the lowest free slot, probing with none sent, deadline time + draw mod 1,001. This time becomes that of the
 -- latest request."
+abbrev pub newClaim : Time → Ipv4Address → ℕ → ℕ → Record
+newClaim time address policy draw =
+    record { address = address; policy = policy; stage = Probing 0 (after time (wait draw)) }
+
 unfoldable pub askOutcome : Interface → Time → Ipv4Address → ℕ → ℕ → Outcome
 askOutcome s time address policy draw =
     record {
@@ -82,8 +86,7 @@ askOutcome s time address policy draw =
         latest = time;
         request = At time;
         conflicts = s .conflicts;
-        records = putAt (s .records) (lowest isFree (s .records))
-            (record { address = address; policy = policy; stage = Probing 0 (after time (wait draw)) });
+        records = putAt (s .records) (lowest isFree (s .records)) (newClaim time address policy draw);
       };
       frame = none;
     }
@@ -126,7 +129,7 @@ servedAs s time slot r served =
     record {
       kind = served .kind;
       slot = some slot;
-      state = renewed s time (set (s .records) slot (record { address = r .address; policy = r .policy; stage = served .stage }));
+      state = renewed s time (set (s .records) slot (withStage r (served .stage)));
       frame = served .frame;
     }
 

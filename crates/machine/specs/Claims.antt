@@ -17,6 +17,7 @@ use Rattle.rules.specs.declared.Frame.{Frame}
 use Rattle.rules.specs.declared.Kind.{Kind}
 use Rattle.rules.specs.declared.Kind.the-variants.{Fresh, Taken, Nothing, Probe, Announce, Defend, Lost, Kept, Dropped}
 use Rattle.machine.specs.Timing.{rfc5227, isWithin}
+use Rattle.machine.specs.Slots.{isJust}
 use Rattle.machine.specs.Interface.{isOurs}
 use Rattle.machine.specs.Calls.{Call, fresh, ask, tick, packet, drop}
 
@@ -94,17 +95,16 @@ isConflictWith own f c =
 abbrev pub marked : Mark → Claim → Claim
 marked mark c = record { address = c .address; policy = c .policy; slot = c .slot; marks = mark ∷ c .marks }
 
--- A claim after a packet: marked, where it is open and the packet is a conflict with it.
+-- A claim after a call that concerns it, if this test holds and it is open.
+abbrev pub markedIf : Bool → Mark → Claim → Claim
+markedIf test mark c = cond (isOpen c && test) (marked mark c) c
+
+-- A claim after a packet, and after a drop of a slot.
 abbrev pub struck : HardwareAddress → Time → Frame → Claim → Claim
-struck own t f c = cond (isOpen c && isConflictWith own f c) (marked (conflicted t) c) c
+struck own t f c = markedIf (isConflictWith own f c) (conflicted t) c
 
-abbrev pub isSlot : ℕ → Option ℕ → Bool
-isSlot slot none = false
-isSlot slot (some n) = eqb n slot
-
--- A claim after a drop: marked, where it is open and in that slot.
 abbrev pub released : Time → ℕ → Claim → Claim
-released t slot c = cond (isOpen c && isSlot slot (c .slot)) (marked (dropped t) c) c
+released t slot c = markedIf (isJust slot (c .slot)) (dropped t) c
 
 -- "Each belongs to the latest claim on its target IP": the claims, the latest first, with a mark of that one.
 abbrev pub isOn : Ipv4Address → Claim → Bool
@@ -114,7 +114,8 @@ unfoldable pub markedLatest : Ipv4Address → Mark → List Claim → List Claim
 markedLatest address mark [] = []
 markedLatest address mark (c ∷ earlier) = cond (isOn address c) (marked mark c ∷ earlier) (c ∷ markedLatest address mark earlier)
 
--- "A tick's frame is sent at the tick's time: a probe if its sender IP is zero, else a claiming announcement."
+-- The kinds whose frame is in the out buffer. "A tick's frame is sent at the tick's time: a probe if its sender IP is zero, else
+-- a claiming announcement."
 abbrev pub hasFrame : Kind → Bool
 hasFrame Fresh = false
 hasFrame Taken = false

@@ -17,7 +17,7 @@ use Rattle.rules.specs.declared.Response.the-variants.{Lose, Defend, Keep}
 use Rattle.rules.specs.declared.Kind.{Kind}
 use Rattle.rules.specs.declared.Kind.the-variants as Kind
 use Rattle.machine.specs.Timing.{rfc5227, isWithin}
-use Rattle.machine.specs.Slots.{freeRecord}
+use Rattle.machine.specs.Slots.{freeRecord, withStage}
 use Rattle.machine.specs.Interface.{isOurs}
 
 -- What a packet says of an address: that it comes from there; or, "operation 1, sender IP zero, target IP its address", that
@@ -75,8 +75,8 @@ seenAt now (Settled conflict) = Settled (At now)
 -- What each response leaves of the record, the frame that it sends, and the kind that is reported. "The slot is free at once."
 abbrev pub recordAfter : Response → Time → Record → Record
 recordAfter Lose now r = freeRecord
-recordAfter Defend now r = record { address = r .address; policy = r .policy; stage = seenAt now (r .stage) }
-recordAfter Keep now r = record { address = r .address; policy = r .policy; stage = seenAt now (r .stage) }
+recordAfter Defend now r = withStage r (seenAt now (r .stage))
+recordAfter Keep now r = withStage r (seenAt now (r .stage))
 
 abbrev pub defence : HardwareAddress → Record → Response → Option Frame
 defence own r Lose = none

@@ -1,14 +1,14 @@
 -- Deadlines: the smallest one left, and the slot that is due.
 use Prim.Native.Nat.{ℕ, min}
-use mathlib.Core.Bool.{Bool, false, cond}
+use mathlib.Core.Bool.{Bool, cond}
 use mathlib.Core.List.{List, [], _∷_}
 use mathlib.Core.Option.{Option, none, some}
-use lib.Dec.{leb, eqb}
+use lib.Dec.{leb}
 use Rattle.rules.specs.declared.Time.{Time}
 use Rattle.rules.specs.declared.Stage.{Stage}
 use Rattle.rules.specs.declared.Stage.the-variants.{Free, Probing, Announced, Settled}
 use Rattle.rules.specs.declared.Record.{Record}
-use Rattle.machine.specs.Slots.{lowest}
+use Rattle.machine.specs.Slots.{lowest, isJust}
 
 -- A stage's deadline, if it has one.
 abbrev pub deadlineOf : Stage → Option ℕ
@@ -17,12 +17,8 @@ deadlineOf (Probing sent deadline) = some (deadline .0)
 deadlineOf (Announced deadline conflict) = some (deadline .0)
 deadlineOf (Settled conflict) = none
 
-abbrev pub isDeadline : ℕ → Option ℕ → Bool
-isDeadline deadline none = false
-isDeadline deadline (some d) = eqb d deadline
-
 abbrev pub hasDeadline : ℕ → Record → Bool
-hasDeadline deadline r = isDeadline deadline (deadlineOf (r .stage))
+hasDeadline deadline r = isJust deadline (deadlineOf (r .stage))
 
 -- "The smallest deadline left or none."
 abbrev pub smaller : Option ℕ → Option ℕ → Option ℕ

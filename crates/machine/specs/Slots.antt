@@ -4,13 +4,19 @@ use Prim.Native.Nat.{ℕ, suc}
 use mathlib.Core.Bool.{Bool, true, false, cond, _&&_, _||_}
 use mathlib.Core.List.{List, [], _∷_}
 use mathlib.Core.Option.{Option, none, some}
+use lib.Dec.{eqb}
 use lib.ListN.{getD, set}
 use Rattle.rules.specs.declared.Record.{Record}
+use Rattle.rules.specs.declared.Stage.{Stage}
 use Rattle.rules.specs.declared.Stage.the-variants.{Free}
 
 -- A free slot's record. A call that frees a slot leaves this.
 abbrev pub freeRecord : Record
 freeRecord = record { address = record { 0 = 0 }; policy = 0; stage = Free }
+
+-- A record at another stage.
+abbrev pub withStage : Record → Stage → Record
+withStage r stage = record { address = r .address; policy = r .policy; stage = stage }
 
 -- The record in a slot.
 abbrev pub recordAt : List Record → ℕ → Record
@@ -38,6 +44,11 @@ lowestFrom n test (r ∷ records) = cond (test r) (some n) (lowestFrom (suc n) t
 abbrev pub lowest : (Record → Bool) → List Record → Option ℕ
 lowest test records = lowestFrom 0 test records
 
+-- Whether a number that may be missing is missing, or is this one.
 abbrev pub isNone : Option ℕ → Bool
 isNone none = true
 isNone (some n) = false
+
+abbrev pub isJust : ℕ → Option ℕ → Bool
+isJust m none = false
+isJust m (some n) = eqb n m

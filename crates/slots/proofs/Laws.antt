@@ -18,7 +18,7 @@ use Rattle.rules.specs.declared.Stage.the-variants.{Probing, Announced}
 use Rattle.rules.specs.declared.Record.{Record}
 use Rattle.machine.specs.Slots.{lowest}
 use Rattle.machine.specs.Interface.{isFree, holds}
-use Rattle.machine.specs.Deadlines.{deadlineOf, isDeadline, hasDeadline, smaller, smallestDeadline, dueSlot}
+use Rattle.machine.specs.Deadlines.{deadlineOf, hasDeadline, smaller, smallestDeadline, dueSlot}
 
 -- `free` is what the test of the stage answered.
 pub held-as : (r : Record) (address : Ipv4Address) (free : Bool) → free ≡ isFree r → free ≡ false →
@@ -49,10 +49,10 @@ pub ruleset earlier-ends = (earlier-alone, earlier-first, earlier-second)
 
 -- `own` is the stage's deadline.
 module _ (stage : Stage) (time : ℕ) (own : Moment) (told : timeOf own ≡ deadlineOf stage) where
-  pub no-deadline : own ≡ Never → false ≡ isDeadline time (deadlineOf stage)
+  pub no-deadline : own ≡ Never → false ≡ isJust time (deadlineOf stage)
   no-deadline e = rw (← told, e)
 
-  pub this-deadline : (d : Time) → own ≡ At d → eqb (d .0) time ≡ isDeadline time (deadlineOf stage)
+  pub this-deadline : (d : Time) → own ≡ At d → eqb (d .0) time ≡ isJust time (deadlineOf stage)
   this-deadline d e = rw (← told, e)
 
 pub ruleset deadline-ends = (no-deadline, this-deadline)

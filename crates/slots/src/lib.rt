@@ -10,9 +10,9 @@ ghost use mathlib.Core.Bool.{cond};
 ghost use mathlib.Core.Option.{some};
 ghost use lib.ListN.{drop};
 ghost use Rattle.rules.specs.Answers.{slotOf, timeOf};
-ghost use Rattle.machine.specs.Slots.{lowest};
+ghost use Rattle.machine.specs.Slots.{lowest, isJust};
 ghost use Rattle.machine.specs.Interface.{isFreeStage, isFree, holds, isHeld};
-ghost use Rattle.machine.specs.Deadlines.{deadlineOf, hasDeadline, smaller, isDeadline, smallestDeadline, dueSlot};
+ghost use Rattle.machine.specs.Deadlines.{deadlineOf, hasDeadline, smaller, smallestDeadline, dueSlot};
 
 // Whether a slot in this stage is free.
 pub fn is_free(stage: Stage) -> bool
@@ -134,7 +134,7 @@ pub fn smallest_deadline(records: [Record; 4]) -> Moment
 
 // Whether a stage has this deadline.
 fn is_deadline(stage: Stage, time: Time) -> bool
-    ensures { λ r. ⌜ r ≡ isDeadline (time .0) (deadlineOf stage) ⌝ }
+    ensures { λ r. ⌜ r ≡ isJust (time .0) (deadlineOf stage) ⌝ }
 {
     let own = deadline(stage);
     match own {
