@@ -24,13 +24,12 @@ use Rattle.machine.specs.Timing.{wait, isWithin}
 use Rattle.machine.specs.Slots.{putAt, lowest, isNone}
 use Rattle.machine.specs.Interface.{isAllowed, isPolicy, isFree, isHeld}
 use Rattle.machine.specs.Refusals.{stateAndTime, isTooSoon, askRefusal}
-use Rattle.machine.specs.Calls.{ask, askOutcome}
+use Rattle.machine.specs.Calls.{ask, askOutcome, newClaim}
 use Rattle.machine.specs.Machine.{refusalOf, outcomeOf, Promised}
 use Rattle.machine.proofs.Acceptance.{AskAccepted, ask-accepted}
 use Rattle.soundness.specs.declared.Check.{Check}
 use Rattle.soundness.specs.declared.Check.the-variants.{Passed, Refused}
 use Rattle.soundness.specs.Parts.{checkOf}
-use Rattle.ask.specs.Parts.{newClaim}
 use Rattle.steps.specs.Parts.{orElse, acceptedWith, HandsBack}
 use Rattle.steps.proofs.Rows.{row-joins, admits}
 use Rattle.steps.proofs.Promises.{check-refuses, check-accepts}

@@ -23,7 +23,6 @@ ghost use Rattle.machine.specs.Refusals.{isTooSoon, askRefusal};
 ghost use Rattle.machine.specs.Calls as Call;
 ghost use Rattle.machine.specs.Machine.{Promised};
 ghost use Rattle.soundness.specs.Parts.{checkOf};
-ghost use Rattle.ask.specs.Parts.{newClaim};
 
 // Whether there were ten conflicts and less than 60,000 ms ago a request.
 fn is_too_soon(state: Interface, time: Time) -> bool
@@ -69,7 +68,7 @@ fn ask_check(state: Interface, time: Time, address: Ipv4Address, policy: u64) ->
 // The record of a new claim, with no probe sent.
 fn new_claim(time: Time, address: Ipv4Address, policy: u64, draw: u32) -> Record
     requires { ⌜ (time .0 ≤ lastTime) × (policy ≤ 3) ⌝ }
-    ensures { λ r. ⌜ r ≡ newClaim time address policy draw ⌝ }
+    ensures { λ r. ⌜ r ≡ Call.newClaim time address policy draw ⌝ }
 {
     let deadline = Time(time.0 + timing::wait(draw));
     Record {

@@ -85,7 +85,7 @@ pub sound-once : (s : Interface) → isSound s ≡ true → holdsNoneTwice (s .r
 unfolding isSound
 sound-once s e =
     and-both (isOwnHardware (s .hardware) && leb (s .latest .0) lastTime && leb (s .conflicts) (rfc5227 .maxConflicts)
-      && isPast (s .latest) (s .request) && all (isSoundRecord (s .latest)) (s .records)) (holdsNoneTwice (s .records)) e .1
+    && isPast (s .latest) (s .request) && all (isSoundRecord (s .latest)) (s .records)) (holdsNoneTwice (s .records)) e .1
 
 -- What is past stays past.
 pub past-later : (latest t : Time) (m : Moment) → latest .0 ≤ t .0 → isPast latest m ≡ true → isPast t m ≡ true

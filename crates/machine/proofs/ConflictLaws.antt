@@ -106,10 +106,10 @@ module _ (own : HardwareAddress) (f : Frame) where
       isConflict own f (recordAt (s .records) slot) ≡ true → isConflict own f (recordAt (s .records) other) ≡ true → slot ≡ other
   one-concerned s slot other sound e d =
       held-in-one (s .records) (recordAt (s .records) other .address) slot other (sound-once s sound)
-        (subst (λ (a : Ipv4Address). holds a (recordAt (s .records) slot) ≡ true)
-          (same-address (recordAt (s .records) slot .address) (recordAt (s .records) other .address) (at slot e ∙ sym (at other d)))
-          (holds-own (recordAt (s .records) slot) (conflict-held (recordAt (s .records) slot) e)))
-        (holds-own (recordAt (s .records) other) (conflict-held (recordAt (s .records) other) d))
+      (subst (λ (a : Ipv4Address). holds a (recordAt (s .records) slot) ≡ true)
+      (same-address (recordAt (s .records) slot .address) (recordAt (s .records) other .address) (at slot e ∙ sym (at other d)))
+      (holds-own (recordAt (s .records) slot) (conflict-held (recordAt (s .records) slot) e)))
+      (holds-own (recordAt (s .records) other) (conflict-held (recordAt (s .records) other) d))
     where
       at : (n : ℕ) → isConflict own f (recordAt (s .records) n) ≡ true → recordAt (s .records) n .address .0 ≡ concerned
       at n e =

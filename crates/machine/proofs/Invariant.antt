@@ -126,7 +126,7 @@ held-in-one (r ∷ records) address zero (suc other) e h k = absurd (head-alone 
 held-in-one (r ∷ records) address (suc slot) zero e h k = absurd (head-alone r records address slot e k h)
 held-in-one (r ∷ records) address (suc slot) (suc other) e h k =
     ap suc (held-in-one records address slot other
-      (and-both (isFree r || not (isHeld (r .address) records)) (holdsNoneTwice records) e .1) h k)
+    (and-both (isFree r || not (isHeld (r .address) records)) (holdsNoneTwice records) e .1) h k)
 
 -- An address that is in a slot: its claims, and that the link's slot is this one.
 pub linked-here : (address : Ipv4Address) (records : List Record) (claims : List Claim) (slot : ℕ) →

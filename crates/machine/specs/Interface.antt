@@ -83,9 +83,12 @@ unfoldable pub isSoundRecord : Time → Record → Bool
 isSoundRecord latest r = isFree r || (isSoundStage latest (r .stage) && isAllowed (r .address) && isPolicy (r .policy))
 
 -- "No address is held twice."
+abbrev pub isAlone : Record → List Record → Bool
+isAlone r others = isFree r || not (isHeld (r .address) others)
+
 unfoldable pub holdsNoneTwice : List Record → Bool
 holdsNoneTwice [] = true
-holdsNoneTwice (r ∷ records) = (isFree r || not (isHeld (r .address) records)) && holdsNoneTwice records
+holdsNoneTwice (r ∷ records) = isAlone r records && holdsNoneTwice records
 
 -- "A state is sound if".
 unfoldable pub isSound : Interface → Bool

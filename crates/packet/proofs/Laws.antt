@@ -25,17 +25,17 @@ use Rattle.rules.specs.declared.SlotNumber.{SlotNumber}
 use Rattle.rules.specs.declared.SlotNumber.the-variants.{Absent, Slot}
 use Rattle.rules.specs.declared.ReadAnswer.{ReadAnswer}
 use Rattle.rules.specs.declared.ReadAnswer.the-variants as ReadAnswer
-use Rattle.rules.proofs.AnswersLaws.{accepted-none}
+use Rattle.rules.proofs.AnswersLaws.{accepted-none, accepted-same, refused-some}
 use Rattle.machine.specs.Slots.{recordAt, lowest}
 use Rattle.machine.specs.Interface.{isSound}
 use Rattle.machine.specs.Conflicts.{isConflict, countUp, response, recordAfter, defence, responseKind}
-use Rattle.machine.specs.Refusals.{stateAndTime, packetRefusal}
-use Rattle.machine.specs.Calls.{packet, renewed, respond, meet, packetOutcome}
-use Rattle.machine.specs.Machine.{refusalOf, outcomeOf, handedOut, Promised}
+use Rattle.machine.specs.Refusals.{stateAndTime, tickRefusal, packetRefusal}
+use Rattle.machine.specs.Calls.{packet, nothing, respond, meet, packetOutcome}
+use Rattle.machine.specs.Machine.{refusalOf, outcomeOf, handedOut, acceptedAs, Promised}
 use Rattle.soundness.specs.declared.Check.{Check}
 use Rattle.soundness.specs.declared.Check.the-variants as Check
 use Rattle.soundness.specs.Parts.{checkOf}
-use Rattle.machine.proofs.Acceptance.{row, Admitted, admitted, sound}
+use Rattle.machine.proofs.Acceptance.{Admitted, tick-accepted, sound}
 use Rattle.requests.proofs.Laws.{announcement-put}
 use Rattle.steps.specs.Parts.{orElse, sentOut, acceptedWith, HandsBack, Done}
 use Rattle.steps.proofs.Rows.{row-joins, admits}
@@ -94,10 +94,9 @@ module _ (s : Interface) (time : Time) (out last : List ℕ) (r : Called) where
       record { back = rw (n, k) at back; written = written ∙ rw f (sent-put s sound held chosen out room) }
 
   module _ (f : Frame) (found : SlotNumber) (told : slotOf found ≡ lowest (isConflict (s .hardware) f) (s .records)) where
-    pub none-met : found ≡ Absent → (new : Interface) → new ≡ renewed s time (s .records) → last ≡ out →
-        HandsBack r (acceptedWith Nothing none new) new →
+    pub none-met : found ≡ Absent → last ≡ out → HandsBack r (accepted (acceptedAs (nothing s time))) (nothing s time .state) →
         Done (meet s time f (lowest (isConflict (s .hardware) f) (s .records))) out r last
-    none-met e new n written back = rw (← told, e) (record { back = rw n at back; written = written })
+    none-met e written back = rw (← told, e) (record { back = back; written = written })
 
     pub one-met : (slot : ℕ) → found ≡ Slot slot → (held : Record) → held ≡ recordAt (s .records) slot →
         (chosen : Response) → chosen ≡ response time held → Done (respond s time slot held chosen) out r last →
@@ -106,15 +105,6 @@ module _ (s : Interface) (time : Time) (out last : List ℕ) (r : Called) where
 
 -- Each way that `meet` ends.
 pub ruleset meet-ends = (none-met, one-met)
-
--- What an answer of `read` says of the refusal and the frame.
-refused-some : {A : Type 0} (refusal : Option ℕ) (n : ℕ) (a : A) → refused n ≡ reported refusal a → refusal ≡ some n
-refused-some none n a e = cc
-refused-some (some m) n a e = cc
-
-accepted-same : {A : Type 0} (refusal : Option ℕ) (a b : A) → accepted a ≡ reported refusal b → a ≡ b
-accepted-same none a b e = cc
-accepted-same (some n) a b e = cc
 
 -- `began` is what the rows 1, 3 and 4 say, and `check` what they and row 5 say.
 module _
@@ -129,14 +119,15 @@ module _
       ∙ ap (λ (n : Option ℕ). orElse n others) (sym told)
 
   module _ (pass : check ≡ Check.Passed) where
-    passed : Admitted s time × ((5 if ltb (length out) 28 else none) ≡ none)
-    passed = admitted s time (5 if ltb (length out) 28 else none) (rows none ∙ rw pass)
+    passed : Admitted s time × (28 ≤ length out)
+    unfolding tickRefusal
+    passed = tick-accepted s time (length out) (rows none ∙ rw pass)
 
     pub is-sound : isSound s ≡ true
     is-sound = passed .0 .sound
 
     pub is-roomy : 28 ≤ length out
-    is-roomy = ltb-false (length out) 28 (row 5 (ltb (length out) 28) none (passed .1) .0)
+    is-roomy = passed .1
 
   -- `read` is what the reader answered.
   module _ (bytes : List ℕ) (read : ReadAnswer) (said : readReport read ≡ readOf bytes) (r : Called) where

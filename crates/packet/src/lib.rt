@@ -3,7 +3,6 @@ use rules::Called;
 use rules::Frame;
 use rules::HardwareAddress;
 use rules::Interface;
-use rules::Kind;
 use rules::MAX_CONFLICTS;
 use rules::ReadAnswer;
 use rules::Record;
@@ -22,8 +21,9 @@ ghost use Rattle.machine.specs.Interface.{isSound};
 ghost use Rattle.machine.specs.Conflicts.{isConflict, countUp};
 ghost use Rattle.machine.specs.Conflicts as Conflicts;
 ghost use Rattle.machine.specs.Calls as Call;
-ghost use Rattle.machine.specs.Machine.{Promised};
-ghost use Rattle.steps.specs.Parts.{frameIn, Done};
+ghost use Rattle.rules.specs.Answers.{accepted};
+ghost use Rattle.machine.specs.Machine.{acceptedAs, Promised};
+ghost use Rattle.steps.specs.Parts.{frameIn, HandsBack, Done};
 
 // Adds one to the conflict count unless it is 10.
 fn count_up(count: u8) -> u8
@@ -90,7 +90,14 @@ fn respond(
     steps::accepted(kind, SlotNumber::Slot(slot), new)
 }
 
-// Meets a frame that was read. With no conflict only the latest time changes.
+// A packet that is no conflict.
+fn unconcerned(state: Interface, time: Time) -> Called
+    ensures { λ r. ⌜ HandsBack r (accepted (acceptedAs (Call.nothing state time))) (Call.nothing state time .state) ⌝ }
+{
+    steps::nothing(state, time)
+}
+
+// Meets a frame that was read.
 fn meet(state: Interface, time: Time, frame: Frame, out: &mut [u8]) -> Called
     requires { ⌜ (isSound state ≡ true) × (28 ≤ length (now out)) ⌝ }
     ensures { λ r. ⌜ Done (Call.meet state time frame (lowest (isConflict (state .hardware) frame) (state .records))) (now (out .entry)) r (now (out .exit)) ⌝ }
@@ -99,10 +106,7 @@ fn meet(state: Interface, time: Time, frame: Frame, out: &mut [u8]) -> Called
     let records = state.records;
     let found = conflicts::conflict_slot(own, frame, records);
     match found {
-        SlotNumber::Absent => {
-            let new = steps::renewed(state, time, records);
-            steps::accepted(Kind::Nothing, SlotNumber::Absent, new)
-        }
+        SlotNumber::Absent => unconcerned(state, time),
         SlotNumber::Slot(slot) => {
             let held = steps::record_at(records, slot);
             let chosen = conflicts::response(held, time);

@@ -11,7 +11,8 @@ use Rattle.rules.specs.declared.Ipv4Address.{Ipv4Address}
 use Rattle.rules.specs.declared.HardwareAddress.{HardwareAddress}
 use Rattle.rules.specs.declared.Frame.{Frame}
 use Rattle.rules.specs.declared.Interface.{Interface}
-use Rattle.machine.specs.Interface.{isOwnHardware, isSound}
+use Rattle.machine.specs.Interface.{isSound}
+use Rattle.machine.proofs.Acceptance.{sound, own-hardware}
 use Rattle.requests.specs.Parts.{requestOf}
 
 -- `f` is what `request` made.
@@ -24,20 +25,11 @@ module _ (own : HardwareAddress) (address : Ipv4Address) (f : Frame) where
   unfolding announcement
   is-announcement e = e
 
--- A sound state's own hardware address has 48 bits.
-sound-hardware : (s : Interface) → isSound s ≡ true → isHardware (s .hardware) ≡ true
-unfolding isSound isOwnHardware
-sound-hardware s e = go (isHardware (s .hardware)) refl
-  where
-    go : (b : Bool) → isHardware (s .hardware) ≡ b → isHardware (s .hardware) ≡ true
-    go true h = h
-    go false h = cc
-
--- So its requests are put into an out buffer of 28 bytes or more.
-module _ (s : Interface) (sound : isSound s ≡ true) (address : Ipv4Address) (out : List ℕ) (room : 28 ≤ length out) where
+-- A sound state's own hardware address has 48 bits, so its requests are put into an out buffer of 28 bytes or more.
+module _ (s : Interface) (is-sound : isSound s ≡ true) (address : Ipv4Address) (out : List ℕ) (room : 28 ≤ length out) where
   put : (sender : Ipv4Address) → writeOut (requestOf (s .hardware) sender address) out ≡ framePut (requestOf (s .hardware) sender address) out
   unfolding writeOut writeRefusal isWritable
-  put sender = rw (le-ltb (length out) 28 room, sound-hardware s sound)
+  put sender = rw (le-ltb (length out) 28 room, own-hardware (s .hardware) (sound s is-sound .own))
 
   pub probe-put : writeOut (probe (s .hardware) address) out ≡ framePut (probe (s .hardware) address) out
   unfolding probe

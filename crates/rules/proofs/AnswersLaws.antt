@@ -131,6 +131,14 @@ module _ {A : Type 0} where
   accepted-none none a b e = refl
   accepted-none (some n) a b e = cc
 
+  pub accepted-same : (refusal : Option ℕ) (a b : A) → accepted a ≡ reported refusal b → a ≡ b
+  accepted-same none a b e = cc
+  accepted-same (some n) a b e = cc
+
+  pub refused-some : (refusal : Option ℕ) (n : ℕ) (a : A) → refused n ≡ reported refusal a → refusal ≡ some n
+  refused-some none n a e = cc
+  refused-some (some m) n a e = cc
+
   pub refused-leaves : {B : Type 0} (refusal : Option ℕ) (n : ℕ) (a : A) (old new : B) → refused n ≡ reported refusal a →
       leaves refusal old new ≡ old
   refused-leaves none n a old new e = cc

@@ -9,7 +9,7 @@ pub struct Time(pub u64);
 
 pub const LAST_TIME: u64 = 281_474_976_710_655;
 
-// Section 1.1 of RFC 5227, in ms where they are times: the program's constants, which the promises hold to the definitions.
+// Those of section 1.1 of RFC 5227 that the program uses, in ms where they are times. The promises hold them to the definitions.
 pub const PROBE_WAIT: u64 = 1_000;
 
 pub const PROBE_NUM: u8 = 3;
@@ -27,6 +27,9 @@ pub const MAX_CONFLICTS: u8 = 10;
 pub const RATE_LIMIT_INTERVAL: u64 = 60_000;
 
 pub const DEFEND_INTERVAL: u64 = 10_000;
+
+// No deadline of a sound state lies further ahead.
+pub const LONGEST_DELAY: u64 = 2_000;
 
 // A hardware address: 48 bits, its first byte the most significant. A larger number stands for no address and is refused.
 pub struct HardwareAddress(pub u64);

@@ -16,7 +16,7 @@ use Rattle.rules.specs.declared.Moment.the-variants.{Never, At}
 use Rattle.rules.specs.declared.Stage.{Stage}
 use Rattle.rules.specs.declared.Stage.the-variants.{Probing, Announced}
 use Rattle.rules.specs.declared.Record.{Record}
-use Rattle.machine.specs.Slots.{lowest}
+use Rattle.machine.specs.Slots.{lowest, isJust}
 use Rattle.machine.specs.Interface.{isFree, holds}
 use Rattle.machine.specs.Deadlines.{deadlineOf, hasDeadline, smaller, smallestDeadline, dueSlot}
 

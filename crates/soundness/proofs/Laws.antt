@@ -16,9 +16,8 @@ use Rattle.rules.specs.declared.Stage.the-variants.{Free, Probing, Announced, S
 use Rattle.rules.specs.declared.Record.{Record}
 use Rattle.rules.specs.declared.Interface.{Interface}
 use Rattle.machine.specs.Slots.{all}
-use Rattle.machine.specs.Interface.{isOwnHardware, isAllowed, isPolicy, isFree, isHeld, isPast, isNear, isSoundStage, isSoundRecord, holdsNoneTwice, isSound}
+use Rattle.machine.specs.Interface.{isAlone, isOwnHardware, isAllowed, isPolicy, isFree, isHeld, isPast, isNear, isSoundStage, isSoundRecord, holdsNoneTwice, isSound}
 use Rattle.machine.specs.Refusals.{stateAndTime}
-use Rattle.soundness.specs.Parts.{isAlone}
 
 pub past-at : (latest : Time) (moment : Moment) (time : Time) → moment ≡ At time →
     leb (time .0) (latest .0) ≡ isPast latest moment

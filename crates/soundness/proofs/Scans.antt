@@ -5,9 +5,8 @@ use mathlib.Core.List.{List, [], _∷_}
 use mathlib.Core.Bool.{Bool, true, _&&_}
 use Rattle.rules.specs.declared.Record.{Record}
 use Rattle.machine.specs.Slots.{all}
-use Rattle.machine.specs.Interface.{holdsNoneTwice}
+use Rattle.machine.specs.Interface.{isAlone, holdsNoneTwice}
 use Rattle.slots.proofs.Scans.{Scan, Begins, Down, Done, begins, down, done}
-use Rattle.soundness.specs.Parts.{isAlone}
 
 -- Whether a test holds of all records.
 module _ (test : Record → Bool) where

@@ -1,11 +1,7 @@
 -- What the functions of src/ promise one another. What the crate promises its users stands in the crate machine.
 use Prim.Native.Nat.{ℕ}
-use mathlib.Core.Bool.{Bool, not, _||_}
-use mathlib.Core.List.{List}
 use mathlib.Core.Option.{Option, none, some}
 use Rattle.rules.specs.Answers.{refusalNumber}
-use Rattle.rules.specs.declared.Record.{Record}
-use Rattle.machine.specs.Interface.{isFree, isHeld}
 use Rattle.soundness.specs.declared.Check.{Check}
 use Rattle.soundness.specs.declared.Check.the-variants.{Passed, Refused}
 
@@ -13,7 +9,3 @@ use Rattle.soundness.specs.declared.Check.the-variants.{Passed, Refused}
 abbrev pub checkOf : Check → Option ℕ
 checkOf Passed = none
 checkOf (Refused refusal) = some (refusalNumber refusal)
-
--- Whether a record is free, or its address is held by none of the others.
-abbrev pub isAlone : Record → List Record → Bool
-isAlone r others = isFree r || not (isHeld (r .address) others)

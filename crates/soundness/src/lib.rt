@@ -4,6 +4,7 @@ use rules::HardwareAddress;
 use rules::Interface;
 use rules::Ipv4Address;
 use rules::LAST_TIME;
+use rules::LONGEST_DELAY;
 use rules::MAX_CONFLICTS;
 use rules::Moment;
 use rules::PROBE_NUM;
@@ -15,9 +16,9 @@ ghost use mathlib.Core.Path.{_≡_};
 ghost use mathlib.Core.Option.{none};
 ghost use lib.ListN.{drop};
 ghost use Rattle.machine.specs.Slots.{all};
-ghost use Rattle.machine.specs.Interface.{isOwnHardware, isAllowed, isPolicy, isPast, isNear, isSoundStage, isSoundRecord, holdsNoneTwice, isSound};
+ghost use Rattle.machine.specs.Interface.{isAlone, isOwnHardware, isAllowed, isPolicy, isPast, isNear, isSoundStage, isSoundRecord, holdsNoneTwice, isSound};
 ghost use Rattle.machine.specs.Refusals.{stateAndTime};
-ghost use Rattle.soundness.specs.Parts.{checkOf, isAlone};
+ghost use Rattle.soundness.specs.Parts.{checkOf};
 
 // Whether an own hardware address has 48 bits, isn't zero, and its first byte is even.
 pub fn is_own_hardware(address: HardwareAddress) -> bool
@@ -56,7 +57,7 @@ fn is_past(latest: Time, moment: Moment) -> bool
 fn is_near(latest: Time, deadline: Time) -> bool
     ensures { λ r. ⌜ r ≡ isNear latest deadline ⌝ }
 {
-    deadline.0 <= latest.0 || deadline.0 - latest.0 <= 2000
+    deadline.0 <= latest.0 || deadline.0 - latest.0 <= LONGEST_DELAY
 }
 
 // What a sound state asks of one stage, and of one record.
@@ -143,7 +144,7 @@ pub fn is_sound(state: Interface) -> bool
         & holds_none_twice(records)
 }
 
-// How a state and a time come through the first rows of the refusals of ask, tick, packet and drop.
+// How a call comes through rows of the refusals.
 pub enum Check {
     Passed,
     Refused(Refusal),

@@ -7,11 +7,14 @@ use mathlib.Core.Option.{none, some}
 use native.Mathlib.Omega.{arith}
 use lib.ListN.{length, set, List·getD-eq-default}
 use lib.Seq.{set-out}
-use Rattle.rules.specs.Answers.{refusalNumber, _if_else_, refused, slotOf, timeOf, answerReport}
+use Rattle.rules.specs.Answers.{refusalNumber, _if_else_, refused, accepted, slotOf, timeOf, answerReport}
 use Rattle.rules.specs.Frame.{writeOut}
 use Rattle.rules.specs.declared.Frame.{Frame}
 use Rattle.rules.specs.declared.Interface.{Interface}
+use Rattle.rules.specs.declared.Time.{Time}
+use Rattle.rules.specs.declared.Called.{Called}
 use Rattle.rules.specs.declared.Kind.{Kind}
+use Rattle.rules.specs.declared.Kind.the-variants.{Nothing}
 use Rattle.rules.specs.declared.Moment.{Moment}
 use Rattle.rules.specs.declared.Record.{Record}
 use Rattle.rules.specs.declared.Refusal.{Refusal}
@@ -20,12 +23,14 @@ use Rattle.rules.specs.declared.SlotNumber.the-variants.{Slot}
 use Rattle.rules.specs.declared.Answer.the-variants as Answer
 use Rattle.machine.specs.Slots.{freeRecord, recordAt, putAt}
 use Rattle.machine.specs.Deadlines.{smallestDeadline}
+use Rattle.machine.specs.Calls.{renewed, nothing}
+use Rattle.machine.specs.Machine.{acceptedAs}
 use Rattle.soundness.specs.declared.Check.{Check}
 use Rattle.soundness.specs.declared.Check.the-variants.{Passed}
 use Rattle.soundness.specs.Parts.{checkOf}
 use Rattle.steps.specs.declared.Outgoing.{Outgoing}
 use Rattle.steps.specs.declared.Outgoing.the-variants.{Request}
-use Rattle.steps.specs.Parts.{orElse, frameIn, sentOut, acceptedWith}
+use Rattle.steps.specs.Parts.{orElse, frameIn, sentOut, acceptedWith, HandsBack}
 
 -- A check that is through its rows leaves it to the next one.
 pub row-applies : (check : Check) → check ≡ Passed → (refusal : Refusal) (applies : Bool) → applies ≡ true →
@@ -56,3 +61,8 @@ pub accepted-says : (kind : Kind) (slot : SlotNumber) (state : Interface) (next 
     timeOf next ≡ smallestDeadline (state .records) → answerReport (Answer.Accepted kind slot next) ≡ acceptedWith kind (slotOf slot) state
 unfolding answerReport
 accepted-says kind slot state next e = rw e
+
+pub nothing-changes : (s : Interface) (time : Time) (new : Interface) → new ≡ renewed s time (s .records) →
+    (r : Called) → HandsBack r (acceptedWith Nothing none new) new →
+    HandsBack r (accepted (acceptedAs (nothing s time))) (nothing s time .state)
+nothing-changes s time new n r back = rw n at back

@@ -18,6 +18,7 @@ ghost use Rattle.rules.specs.Answers as Answers;
 ghost use Rattle.soundness.specs.Parts.{checkOf};
 ghost use Rattle.machine.specs.Slots.{freeRecord, recordAt, putAt};
 ghost use Rattle.machine.specs.Calls as Calls;
+ghost use Rattle.machine.specs.Machine.{acceptedAs};
 ghost use Rattle.steps.specs.Parts.{orElse, frameIn, sentOut, acceptedWith, HandsBack};
 
 // A frame that goes out, or none.
@@ -95,6 +96,15 @@ pub fn renewed(state: Interface, time: Time, records: [Record; 4]) -> Interface
         conflicts: state.conflicts,
         records,
     }
+}
+
+// Nothing but the latest time changes.
+pub fn nothing(state: Interface, time: Time) -> Called
+    ensures { λ r. ⌜ HandsBack r (Answers.accepted (acceptedAs (Calls.nothing state time))) (Calls.nothing state time .state) ⌝ }
+{
+    let records = state.records;
+    let new = renewed(state, time, records);
+    accepted(Kind::Nothing, SlotNumber::Absent, new)
 }
 
 // Writes the frame that goes out, if there is one.

@@ -9,7 +9,7 @@ use lib.Dec.{ltb}
 use lib.ListN.{length, set}
 use borrow.Author.Tests.{lt-ltb, le-ltb, ltb-false}
 use Rattle.rules.specs.Times.{lastTime}
-use Rattle.rules.specs.Answers.{refusalNumber, _if_else_, refused, slotOf}
+use Rattle.rules.specs.Answers.{refusalNumber, _if_else_, refused, slotOf, accepted}
 use Rattle.rules.specs.Frame.{probe, announcement}
 use Rattle.rules.specs.declared.Ipv4Address.{Ipv4Address}
 use Rattle.rules.specs.declared.HardwareAddress.{HardwareAddress}
@@ -26,13 +26,13 @@ use Rattle.rules.specs.declared.Refusal.{Refusal}
 use Rattle.rules.specs.declared.Kind.the-variants as Kind
 use Rattle.rules.specs.declared.Called.{Called}
 use Rattle.machine.specs.Timing.{gap}
-use Rattle.machine.specs.Slots.{recordAt}
+use Rattle.machine.specs.Slots.{recordAt, withStage}
 use Rattle.machine.specs.Interface.{isSound}
 use Rattle.machine.specs.Deadlines.{dueSlot}
 use Rattle.machine.specs.Refusals.{stateAndTime, tickRefusal}
-use Rattle.machine.specs.Calls.{tick, renewed, delay, serviceAt, service, serve, tickOutcome}
-use Rattle.machine.specs.Machine.{refusalOf, outcomeOf, handedOut, Promised}
-use Rattle.machine.proofs.Acceptance.{row, Admitted, admitted}
+use Rattle.machine.specs.Calls.{tick, renewed, delay, serviceAt, service, serve, tickOutcome, nothing}
+use Rattle.machine.specs.Machine.{refusalOf, outcomeOf, handedOut, Promised, acceptedAs}
+use Rattle.machine.proofs.Acceptance.{Admitted, tick-accepted}
 use Rattle.soundness.specs.declared.Check.{Check}
 use Rattle.soundness.specs.declared.Check.the-variants.{Passed, Refused}
 use Rattle.soundness.specs.Parts.{checkOf}
@@ -109,7 +109,7 @@ module _ (s : Interface) (time : Time) (draw : ℕ) where
   service-sent sound out room claim = stage-sent sound out room (claim .address) (claim .stage)
 
   pub slot-restaged : (slot : ℕ) (claim : Record) (stage : Stage) (records : List Record) →
-      records ≡ set (s .records) slot (record { address = claim .address; policy = claim .policy; stage = stage }) →
+      records ≡ set (s .records) slot (withStage claim stage) →
       (new : Interface) → new ≡ renewed s time records → new ≡ restagedAs s time slot claim stage
   slot-restaged slot claim stage records p new n = rw (n, p)
 
@@ -131,9 +131,8 @@ module _ (s : Interface) (time : Time) (draw : ℕ) where
 
   module _ (out : List ℕ) (check : Check) (told : checkOf check ≡ tickRefusal s time (length out)) where
     module _ (pass : check ≡ Passed) where
-      facts : Admitted s time × (5 if ltb (length out) 28 else none ≡ none)
-      unfolding tickRefusal
-      facts = admitted s time (5 if ltb (length out) 28 else none) (sym told ∙ ap checkOf pass)
+      facts : Admitted s time × (28 ≤ length out)
+      facts = tick-accepted s time (length out) (sym told ∙ ap checkOf pass)
 
       pub tick-sound : isSound s ≡ true
       tick-sound = facts .0 .sound
@@ -142,7 +141,7 @@ module _ (s : Interface) (time : Time) (draw : ℕ) where
       tick-time = facts .0 .inRange
 
       pub tick-room : 28 ≤ length out
-      tick-room = ltb-false (length out) 28 (row 5 (ltb (length out) 28) none (facts .1) .0)
+      tick-room = facts .1
 
     module _ (r : Called) where
       pub tick-refused : (refusal : Refusal) → check ≡ Refused refusal → HandsBack r (refused (refusalNumber refusal)) s →
@@ -158,9 +157,9 @@ module _ (s : Interface) (time : Time) (draw : ℕ) where
             rw (done .written, due)
             (check-accepts s (tick time draw out) r check told pass (rw due at (done .back)))
 
-        pub tick-nothing : slot ≡ Absent → (new : Interface) → new ≡ renewed s time (s .records) →
-            HandsBack r (acceptedWith Kind.Nothing none new) new → Promised s (tick time draw out) (r .answer) (r .state) out
-        tick-nothing e new n back = well-done out (rw e (record { back = rw n at back; written = refl }))
+        pub tick-nothing : slot ≡ Absent → HandsBack r (accepted (acceptedAs (nothing s time))) (nothing s time .state) →
+            Promised s (tick time draw out) (r .answer) (r .state) out
+        tick-nothing e back = well-done out (rw e (record { back = back; written = refl }))
 
         pub tick-serves : (n : ℕ) → slot ≡ Slot n → (left : List ℕ) → Done (serve s time draw (some n)) out r left →
             Promised s (tick time draw out) (r .answer) (r .state) left

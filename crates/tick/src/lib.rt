@@ -22,7 +22,7 @@ ghost use Prim.Native.Nat.{_≤_};
 ghost use lib.ListN.{length};
 ghost use Rattle.rules.specs.Times.{lastTime};
 ghost use Rattle.rules.specs.Frame as Frame;
-ghost use Rattle.machine.specs.Interface.{isSound};
+ghost use Rattle.machine.specs.Interface.{longestDelay, isSound};
 ghost use Rattle.machine.specs.Refusals.{tickRefusal};
 ghost use Rattle.machine.specs.Calls.{service};
 ghost use Rattle.machine.specs.Calls as Call;
@@ -40,7 +40,7 @@ struct Service {
 
 // The time from a probe to the next frame, with so many probes sent.
 fn delay(probes: u8, draw: u32) -> u64
-    ensures { λ r. ⌜ (r ≡ Call.delay probes draw) × (r ≤ 2_000) ⌝ }
+    ensures { λ r. ⌜ (r ≡ Call.delay probes draw) × (r ≤ longestDelay) ⌝ }
 {
     if probes < PROBE_NUM {
         timing::gap(draw)
@@ -168,10 +168,7 @@ pub fn tick(state: Interface, time: Time, draw: u32, out: &mut [u8]) -> Called
             let records = state.records;
             let slot = slots::due_slot(records, time);
             match slot {
-                SlotNumber::Absent => {
-                    let new = steps::renewed(state, time, records);
-                    steps::accepted(Kind::Nothing, SlotNumber::Absent, new)
-                }
+                SlotNumber::Absent => steps::nothing(state, time),
                 SlotNumber::Slot(due) => serve(state, time, draw, due, out),
             }
         }

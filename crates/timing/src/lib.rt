@@ -22,7 +22,7 @@ pub fn gap(draw: u32) -> u64
     PROBE_MIN + draw as u64 % (PROBE_MAX - PROBE_MIN + 1)
 }
 
-// Whether something happened less than so many ms ago. A time that lies ahead is none ago.
+// Whether something happened less than so many ms ago. A time still ahead counts as less than any interval ago.
 pub fn is_within(ms: u64, now: Time, last: Moment) -> bool
     ensures { λ r. ⌜ r ≡ isWithin ms now last ⌝ }
 {
