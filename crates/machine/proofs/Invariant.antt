@@ -12,6 +12,7 @@ use borrow.Author.Tests.{not-true, eqb-true, eqb-false, eq-eqb, ne-eqb}
 use Rattle.rules.specs.Answers.{accepted}
 use Rattle.rules.specs.declared.Ipv4Address.{Ipv4Address}
 use Rattle.rules.specs.declared.HardwareAddress.{HardwareAddress}
+use Rattle.rules.specs.declared.Time.{Time}
 use Rattle.rules.specs.declared.Moment.{Moment}
 use Rattle.rules.specs.declared.Moment.the-variants.{Never, At}
 use Rattle.rules.specs.declared.Stage.{Stage}
@@ -22,7 +23,7 @@ use Rattle.rules.proofs.BytesLaws.{and-both}
 use Rattle.machine.specs.Timing.{rfc5227}
 use Rattle.machine.specs.Slots.{recordAt}
 use Rattle.machine.specs.Interface.{isFree, holds, isHeld, holdsNoneTwice}
-use Rattle.machine.specs.Calls.{Call, Outcome}
+use Rattle.machine.specs.Calls.{Call, Outcome, renewed}
 use Rattle.machine.specs.Machine.{lent, handedOut, acceptedAs}
 use Rattle.machine.specs.Claims.{claimsAfter, asksBy, Mark, Claim, isOpen, isOpenAfter, conflicts, conflictCount, marked, markedLatest, isOn}
 use Rattle.machine.specs.Demand3.{Spaced}
@@ -49,6 +50,18 @@ pub record Linked (own : HardwareAddress) (s : Interface) (claims : List Claim) 
   pub count : s .conflicts ≡ min (conflictCount claims) (rfc5227 .maxConflicts)
   pub asksApart : Spaced (rfc5227 .rateLimitInterval) asks
   pub lastAsk : LastAsk asks (conflictCount claims) (s .request)
+
+-- A later time alone leaves it.
+pub linked-later : (own : HardwareAddress) (s : Interface) (claims : List Claim) (asks : List ℕ) (time : Time) → Linked own s claims asks →
+    Linked own (renewed s time (s .records)) claims asks
+linked-later own s claims asks time linked =
+    record {
+      hardware = linked .hardware;
+      links = linked .links;
+      count = linked .count;
+      asksApart = linked .asksApart;
+      lastAsk = linked .lastAsk;
+    }
 
 -- The link after an accepted call with this outcome.
 abbrev pub LinkedAfter : HardwareAddress → List Claim → List ℕ → Call → Outcome → Type 0

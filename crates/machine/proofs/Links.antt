@@ -56,6 +56,12 @@ pub record Here (address : Ipv4Address) (records : List Record) (claims : List C
 abbrev pub Link : Ipv4Address → List Record → List Claim → Type 0
 Link address records claims = Away address records claims ⊎ Here address records claims
 
+-- The record of this slot agrees with the latest claim, where the link's slot is this one.
+pub agrees-here : (address : Ipv4Address) (records : List Record) (claims : List Claim) (slot : ℕ) (here : Here address records claims) →
+    here .slot ≡ slot → Agrees slot (recordAt records slot) (here .latest)
+agrees-here address records claims slot here mine =
+    subst (λ (n : ℕ). Agrees n (recordAt records n) (here .latest)) mine (here .agrees)
+
 module _ (records : List Record) (slot : ℕ) (new : Record) (room : slot < length records) where
   pub at-slot : recordAt (set records slot new) slot ≡ new
   at-slot = getD-set-same records slot new freeRecord room

@@ -1,6 +1,6 @@
 -- An accepted packet keeps the link: it is a conflict with the claim of one slot, or with none.
 use Prim.Native.Nat.{ℕ, suc, _+_, _<_, _≤_, min}
-use mathlib.Core.Path.{_≡_, refl, sym, ap, _∙_, subst}
+use mathlib.Core.Path.{_≡_, refl, sym, ap, _∙_}
 use mathlib.Core.Bool.{Bool, true, false, cond, _&&_, true≢false, false≢true}
 use mathlib.Core.List.{List, [], _∷_, map}
 use mathlib.Core.Option.{Option, none, some}
@@ -36,8 +36,8 @@ use Rattle.machine.proofs.SlotLaws.{lowest-holds, none-fails}
 use Rattle.machine.proofs.Acceptance.{Admitted, past-later, packet-accepted, sound, sound-at, announcement-reads}
 use Rattle.machine.proofs.ClaimLaws.{on, on-each, each-map, on-marked, on-marked-other}
 use Rattle.machine.proofs.Stories.{untouched, Bounded, InUse, conflict-borne, defence-sent, bounded-conflicted, ended-before-use, ended-by-surrender, lost-surrenders, defended-bears, kept-bears}
-use Rattle.machine.proofs.Links.{Story, Agrees, Closed, Here, Link, link-elsewhere, link-goes-on, link-over}
-use Rattle.machine.proofs.Invariant.{LastAsk, agrees-open, Linked, LinkedAfter, last-ask-counts, by-address, holds-own, holds-no-other, held-address, linked-here, agrees-bounded, count-marked}
+use Rattle.machine.proofs.Links.{Story, Agrees, Closed, Here, Link, link-elsewhere, link-goes-on, link-over, agrees-here}
+use Rattle.machine.proofs.Invariant.{LastAsk, agrees-open, Linked, LinkedAfter, last-ask-counts, by-address, holds-own, holds-no-other, held-address, linked-here, agrees-bounded, count-marked, linked-later}
 use Rattle.machine.proofs.ConflictLaws.{seen-free, agrees-conflict, conflict-held, one-concerned}
 use Rattle.machine.proofs.Changes.{on-changed, unconcerned-each, same-each, concerned-marked}
 
@@ -162,14 +162,7 @@ module _ (own : HardwareAddress) (s : Interface) (claims : List Claim) (asks : L
     packet-nothing : LinkedAfter own claims asks (packet t bytes out) (meet s t f none)
     unfolding claimsAfter f
     packet-nothing =
-        rw untouched-claims
-        (record {
-          hardware = linked .hardware;
-          links = linked .links;
-          count = linked .count;
-          asksApart = linked .asksApart;
-          lastAsk = linked .lastAsk;
-        })
+        rw untouched-claims (linked-later own s claims asks t linked)
 
   -- A conflict is found.
   module _ (slot : ℕ) (found : lowest (isConflict (s .hardware) f) (s .records) ≡ some slot) where
@@ -239,7 +232,7 @@ module _ (own : HardwareAddress) (s : Interface) (claims : List Claim) (asks : L
     module _ (here : Here (r .address) (s .records) (on (r .address) claims)) (mine : here .slot ≡ slot) where
       agreed : Agrees slot r (here .latest)
       unfolding r
-      agreed = subst (λ (n : ℕ). Agrees n (recordAt (s .records) n) (here .latest)) mine (here .agrees)
+      agreed = agrees-here (r .address) (s .records) (on (r .address) claims) slot here mine
 
       hit : isConflictWith own f (here .latest) ≡ true
       unfolding r

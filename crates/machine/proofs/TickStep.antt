@@ -33,8 +33,8 @@ use Rattle.machine.proofs.DeadlineLaws.{Due, due-slot}
 use Rattle.machine.proofs.Acceptance.{Admitted, tick-accepted, sound, sound-at, allowed-number, probe-reads, announcement-reads}
 use Rattle.machine.proofs.ClaimLaws.{on, on-marked, on-marked-other}
 use Rattle.machine.proofs.Stories.{Probed, probe-sent, first-announced, second-announced}
-use Rattle.machine.proofs.Links.{Story, Agrees, Link, Here, link-elsewhere, link-goes-on}
-use Rattle.machine.proofs.Invariant.{Linked, LinkedAfter, by-address, holds-own, holds-no-other, linked-here, count-marked}
+use Rattle.machine.proofs.Links.{Story, Agrees, Link, Here, link-elsewhere, link-goes-on, agrees-here}
+use Rattle.machine.proofs.Invariant.{Linked, LinkedAfter, by-address, holds-own, holds-no-other, linked-here, count-marked, linked-later}
 
 -- What serving a stage that is due sends and leaves.
 record Served (own : HardwareAddress) (address : Ipv4Address) (policy : ℕ) (t : Time) (marks : List Mark) (served : Service) : Type 0 where
@@ -104,14 +104,7 @@ module _ (own : HardwareAddress) (s : Interface) (claims : List Claim) (asks : L
   -- Nothing is due.
   tick-nothing : LinkedAfter own claims asks (tick time draw out) (serve s time draw none)
   unfolding claimsAfter
-  tick-nothing =
-      record {
-        hardware = linked .hardware;
-        links = linked .links;
-        count = linked .count;
-        asksApart = linked .asksApart;
-        lastAsk = linked .lastAsk;
-      }
+  tick-nothing = linked-later own s claims asks time linked
 
   module _ (slot : ℕ) (due : Due time (s .records) slot) where
     r : Record
@@ -137,7 +130,7 @@ module _ (own : HardwareAddress) (s : Interface) (claims : List Claim) (asks : L
     module _ (here : Here (r .address) (s .records) (on (r .address) claims)) (mine : here .slot ≡ slot) where
       agreed : Agrees slot r (here .latest)
       unfolding r
-      agreed = subst (λ (n : ℕ). Agrees n (recordAt (s .records) n) (here .latest)) mine (here .agrees)
+      agreed = agrees-here (r .address) (s .records) (on (r .address) claims) slot here mine
 
       serves : Served (s .hardware) (r .address) (r .policy) time (here .latest .marks) served
       unfolding r served service

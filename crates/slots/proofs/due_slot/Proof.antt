@@ -1,5 +1,4 @@
 -- `slots::due_slot`: no deadline, one not later than the time, one later.
-use native.Mathlib.Nat.{le-of-lt}
 use borrow.Author.Needs.{needs}
 use Rattle.slots.proofs.Laws.{due-ends}
 use Rattle.slots.proofs.due_slot.Statement.{statement}
@@ -9,7 +8,7 @@ returns : tie.Need-returns
 returns c = search due-ends
 
 returns-2 : tie.Need-returns-2
-returns-2 c = search (due-ends, le-of-lt)
+returns-2 c = search due-ends
 
 returns-3 : tie.Need-returns-3
 returns-3 c = search due-ends
