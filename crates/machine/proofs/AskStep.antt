@@ -22,7 +22,7 @@ use Rattle.machine.specs.Slots.{recordAt, lowest}
 use Rattle.machine.specs.Interface.{isFree, holds}
 use Rattle.machine.specs.Calls.{ask, newClaim, askOutcome}
 use Rattle.machine.specs.Refusals.{askRefusal}
-use Rattle.machine.specs.Claims.{Claim, claimsAfter, conflicts, conflictCount}
+use Rattle.machine.specs.Claims.{Claim, claimsAfter, conflictCount, timesOf}
 use Rattle.machine.specs.Demand3.{Spaced, IsAfter}
 use Rattle.machine.proofs.SlotLaws.{lowest-holds, any-fails}
 use Rattle.machine.proofs.Acceptance.{AskAccepted, ask-accepted}
@@ -98,7 +98,7 @@ module _ (own : HardwareAddress) (s : Interface) (claims : List Claim) (asks : L
   )
 
   ask-linked : LinkedAfter own claims asks (ask time address policy draw) (askOutcome s time address policy draw)
-  unfolding askOutcome claimsAfter conflictCount conflicts new claim
+  unfolding askOutcome claimsAfter conflictCount timesOf new claim
   ask-linked =
       let later = ask-asks (leb (rfc5227 .maxConflicts) (conflictCount claims)) refl in
       rw lowestFree

@@ -6,6 +6,7 @@ use mathlib.Core.List.{List, [], _∷_, _++_, map}
 use mathlib.Core.Option.{Option, none, some}
 use mathlib.Core.Logic.{inl, inr, _↔_}
 use native.Mathlib.Omega.{arith}
+use lib.Dec.{eqb}
 use Rattle.rules.specs.Answers.{Report, refused, accepted, Accepted, answerReport}
 use Rattle.rules.specs.declared.Ipv4Address.{Ipv4Address}
 use Rattle.rules.specs.declared.HardwareAddress.{HardwareAddress}
@@ -23,7 +24,7 @@ use Rattle.machine.specs.Interface.{holds, isUsableStage}
 use Rattle.machine.specs.Calls.{Call, fresh, ask, tick, packet, drop, freshOutcome}
 use Rattle.machine.specs.Refusals.{freshRefusal}
 use Rattle.machine.specs.Machine.{Result, refusalOf, outcomeOf, lent, resultAs, resultOf, Promised}
-use Rattle.machine.specs.Claims.{Event, Mark, probed, announced, defended, conflicted, dropped, Claim, isInUse, claimsBy, claimsOf, latestOn, asksBy, asksAfterTenth, conflictCount, defences}
+use Rattle.machine.specs.Claims.{Event, Mark, Claim, isInUse, claimsBy, claimsOf, latestOn, asksBy, asksAfterTenth, conflictCount, mark, anAnnouncement, aDefence, timesOf, signNumber, isAny}
 use Rattle.machine.specs.Demand3.{Step, stateAfter, isAccepted, isFresh, History, eventOf, events, stateLeft, plainMachine, resultIn, isUsableIn, isUsable, Each, WentThrough, LatestWentThrough, SendsFew, DefendsSeldom, acceptedOnly, CountForNothing, Theorem}
 use Rattle.machine.proofs.SlotLaws.{any-fails, any-holds, any-slot}
 use Rattle.machine.proofs.Windows.{spaced-few}
@@ -112,14 +113,16 @@ in-use-through policy conflict sent c same w =
       notGivenUp = rw same (w .stillOpen);
     }
 
-announced-in-use : (since before : List Mark) (t : Time) → isInUse (since ++ (announced t ∷ before)) ≡ true
-unfolding isInUse
+announced-in-use : (since before : List Mark) (t : Time) → isInUse (since ++ (mark anAnnouncement t ∷ before)) ≡ true
+unfolding timesOf
 announced-in-use [] before t = refl
-announced-in-use (probed u ∷ since) before t = announced-in-use since before t
-announced-in-use (announced u ∷ since) before t = refl
-announced-in-use (defended u ∷ since) before t = announced-in-use since before t
-announced-in-use (conflicted u ∷ since) before t = announced-in-use since before t
-announced-in-use (dropped u ∷ since) before t = announced-in-use since before t
+announced-in-use (m ∷ since) before t = go (eqb (signNumber (m .sign)) (signNumber anAnnouncement)) (announced-in-use since before t)
+  where
+    go : (b : Bool) → isInUse (since ++ (mark anAnnouncement t ∷ before)) ≡ true →
+        isAny (cond b (m .time .0 ∷ timesOf anAnnouncement (since ++ (mark anAnnouncement t ∷ before)))
+        (timesOf anAnnouncement (since ++ (mark anAnnouncement t ∷ before)))) ≡ true
+    go true later = refl
+    go false later = later
 
 in-use : (c : Claim) → WentThrough c → isInUse (c .marks) ≡ true
 in-use c w = rw (w .split) (announced-in-use (w .since) (w .before) (w .announcedAt))
@@ -278,7 +281,7 @@ demand3 own before start answer promised taken steps history =
       usableExactlyIf = usable-exactly-if own (stateAfter start steps) claims asks linked;
       fewFrames = each-map (λ c. Bounded (c .marks)) SendsFew (λ c b. (b .fewProbes, b .fewAnnouncements)) claims bounded;
       fewDefences = each-map (λ c. Bounded (c .marks)) DefendsSeldom
-          (λ c b. spaced-few (rfc5227 .defendInterval) (omega arith) (defences (c .marks)) (b .defencesApart)) claims bounded;
+          (λ c b. spaced-few (rfc5227 .defendInterval) (omega arith) (timesOf aDefence (c .marks)) (b .defencesApart)) claims bounded;
       fewAsks = spaced-few (rfc5227 .rateLimitInterval) (omega arith) asks (linked .asksApart);
       refusedCountForNothing = refused-count-for-nothing own start steps history;
     }

@@ -16,7 +16,7 @@ use Rattle.machine.specs.Slots.{recordAt, freeRecord, isJust}
 use Rattle.machine.specs.Interface.{isFree, holds}
 use Rattle.machine.specs.Calls.{drop, dropOutcome}
 use Rattle.machine.specs.Refusals.{dropRefusal}
-use Rattle.machine.specs.Claims.{Claim, dropped, marked, isOpen, released, claimsAfter, conflicts}
+use Rattle.machine.specs.Claims.{Claim, marked, isOpen, released, claimsAfter, mark, aConflict, aDrop, timesOf}
 use Rattle.machine.proofs.SlotLaws.{slot-bound}
 use Rattle.machine.proofs.Acceptance.{drop-accepted}
 use Rattle.machine.proofs.ClaimLaws.{on}
@@ -44,11 +44,11 @@ module _ (own : HardwareAddress) (s : Interface) (claims : List Claim) (asks : L
       let here = w .0 in
       let mine : inSlot (here .latest) ≡ true = rw (here .agrees .sameSlot) (eq-eqb (here .slot) slot (w .1)) in
       rw (
-        on-changed inSlot (dropped time) (r .address) claims,
-        concerned-marked inSlot (dropped time) (r .address) (s .records) (on (r .address) claims) here mine,
+        on-changed inSlot (mark aDrop time) (r .address) claims,
+        concerned-marked inSlot (mark aDrop time) (r .address) (s .records) (on (r .address) claims) here mine,
       )
       (inl (link-over (s .records) slot freeRecord room (r .address) (on (r .address) claims) here (w .1)
-      (marked (dropped time) (here .latest)) refl
+      (marked (mark aDrop time) (here .latest)) refl
       (record {
         ended = ended-by-drop (here .latest .policy) time (here .latest .marks);
         bounded = bounded-dropped time (here .latest .marks)
@@ -61,9 +61,9 @@ module _ (own : HardwareAddress) (s : Interface) (claims : List Claim) (asks : L
   unfolding r inSlot
   drop-elsewhere other apart =
       rw (
-        on-changed inSlot (dropped time) other claims,
-        same-each inSlot (dropped time) (on other claims)
-            (unconcerned-each inSlot (dropped time) other (s .records) (on other claims) (linked .links other) spared),
+        on-changed inSlot (mark aDrop time) other claims,
+        same-each inSlot (mark aDrop time) (on other claims)
+            (unconcerned-each inSlot (mark aDrop time) other (s .records) (on other claims) (linked .links other) spared),
       )
       (link-elsewhere (s .records) slot freeRecord room other (on other claims) not-mine refl (linked .links other))
     where
@@ -76,11 +76,11 @@ module _ (own : HardwareAddress) (s : Interface) (claims : List Claim) (asks : L
           (ne-eqb (here .slot) slot
           (λ e. false≢true (sym not-mine ∙ subst (λ (n : ℕ). holds other (recordAt (s .records) n) ≡ true) e (here .held))))
 
-  drop-conflicts : (c : Claim) → conflicts (released time slot c .marks) ≡ conflicts (c .marks)
-  unfolding conflicts
+  drop-conflicts : (c : Claim) → timesOf aConflict (released time slot c .marks) ≡ timesOf aConflict (c .marks)
+  unfolding timesOf
   drop-conflicts c = go (isOpen c && isJust slot (c .slot))
     where
-      go : (b : Bool) → conflicts (cond b (marked (dropped time) c) c .marks) ≡ conflicts (c .marks)
+      go : (b : Bool) → timesOf aConflict (cond b (marked (mark aDrop time) c) c .marks) ≡ timesOf aConflict (c .marks)
       go true = refl
       go false = refl
 

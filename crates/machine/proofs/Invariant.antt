@@ -25,7 +25,7 @@ use Rattle.machine.specs.Slots.{recordAt}
 use Rattle.machine.specs.Interface.{isFree, holds, isHeld, holdsNoneTwice}
 use Rattle.machine.specs.Calls.{Call, Outcome, renewed}
 use Rattle.machine.specs.Machine.{lent, handedOut, acceptedAs}
-use Rattle.machine.specs.Claims.{claimsAfter, asksBy, Mark, Claim, isOpen, isOpenAfter, conflicts, conflictCount, marked, markedLatest, isOn}
+use Rattle.machine.specs.Claims.{claimsAfter, asksBy, Mark, Claim, isOpen, isOpenAfter, conflictCount, marked, markedLatest, isOn, aConflict, timesOf}
 use Rattle.machine.specs.Demand3.{Spaced}
 use Rattle.machine.proofs.SlotLaws.{any-fails, any-slot}
 use Rattle.machine.proofs.ClaimLaws.{on}
@@ -174,7 +174,7 @@ module _ (slot : ℕ) (r : Record) (c : Claim) (agrees : Agrees slot r c) where
   agrees-bounded = story-bounded (r .policy) (r .stage) (c .marks) (agrees .story)
 
 -- A mark that is no conflict, and a change that makes none, leave the count.
-pub count-marked : (address : Ipv4Address) (mark : Mark) → ((marks : List Mark) → conflicts (mark ∷ marks) ≡ conflicts marks) →
+pub count-marked : (address : Ipv4Address) (mark : Mark) → ((marks : List Mark) → timesOf aConflict (mark ∷ marks) ≡ timesOf aConflict marks) →
     (claims : List Claim) → conflictCount (markedLatest address mark claims) ≡ conflictCount claims
 unfolding conflictCount markedLatest
 count-marked address mark none [] = refl
@@ -182,11 +182,11 @@ count-marked address mark none (c ∷ earlier) = go (isOn address c) (count-mark
   where
     go : (b : Bool) → conflictCount (markedLatest address mark earlier) ≡ conflictCount earlier →
         conflictCount (cond b (marked mark c ∷ earlier) (c ∷ markedLatest address mark earlier))
-        ≡ length (conflicts (c .marks)) + conflictCount earlier
+        ≡ length (timesOf aConflict (c .marks)) + conflictCount earlier
     go true later = rw (none (c .marks))
     go false later = rw later
 
-pub count-changed : (change : Claim → Claim) → ((c : Claim) → conflicts (change c .marks) ≡ conflicts (c .marks)) →
+pub count-changed : (change : Claim → Claim) → ((c : Claim) → timesOf aConflict (change c .marks) ≡ timesOf aConflict (c .marks)) →
     (claims : List Claim) → conflictCount (map change claims) ≡ conflictCount claims
 unfolding conflictCount
 count-changed change none [] = refl

@@ -30,7 +30,7 @@ use Rattle.machine.specs.Interface.{isFree, holds, isPast, isNear, isSou
 use Rattle.machine.specs.Conflicts.{isConflict, countUp, byPolicy, responseAt, response, seenAt}
 use Rattle.machine.specs.Calls.{packet, respond, meet, packetOutcome}
 use Rattle.machine.specs.Refusals.{packetRefusal}
-use Rattle.machine.specs.Claims.{Mark, Claim, conflicted, defended, isOpen, isOn, isOpenAfter, isConflictWith, struck, marked, markedLatest, conflicts, conflictCount, claimsAfter}
+use Rattle.machine.specs.Claims.{Mark, Claim, isOpen, isOn, isOpenAfter, isConflictWith, struck, marked, markedLatest, conflictCount, claimsAfter, mark, aDefence, aConflict, timesOf}
 use Rattle.machine.specs.Demand3.{Each}
 use Rattle.machine.proofs.SlotLaws.{lowest-holds, none-fails}
 use Rattle.machine.proofs.Acceptance.{Admitted, past-later, packet-accepted, sound, sound-at, announcement-reads}
@@ -48,19 +48,19 @@ isLose Keep = false
 
 -- What each response to a conflict leaves of a claim.
 module _ (policy : ℕ) (latest t : Time) (later : latest .0 ≤ t .0) (marks : List Mark) where
-  lost-story : (stage : Stage) → responseAt policy t stage ≡ Lose → Story policy stage marks → isOpenAfter policy (conflicted t ∷ marks) ≡ false
+  lost-story : (stage : Stage) → responseAt policy t stage ≡ Lose → Story policy stage marks → isOpenAfter policy (mark aConflict t ∷ marks) ≡ false
   lost-story Free e story = absurd story
   lost-story (Probing sent deadline) e story = ended-before-use policy t marks (untouched policy marks (story .only) .notInUse)
   lost-story (Announced deadline conflict) e story = ended-by-surrender policy t marks (lost-surrenders policy conflict 1 t marks story e)
   lost-story (Settled conflict) e story = ended-by-surrender policy t marks (lost-surrenders policy conflict 2 t marks story e)
 
   kept-in-use : (conflict : Moment) (sent : ℕ) → InUse policy conflict sent marks → byPolicy policy t conflict ≡ Keep →
-      isPast latest conflict ≡ true → InUse policy (At t) sent (conflicted t ∷ marks)
+      isPast latest conflict ≡ true → InUse policy (At t) sent (mark aConflict t ∷ marks)
   kept-in-use conflict sent w e past =
       conflict-borne policy conflict sent t marks w (past-later latest t conflict later past) (kept-bears policy conflict sent t marks w e)
 
   kept-story : (stage : Stage) → responseAt policy t stage ≡ Keep → isSoundStage latest stage ≡ true → Story policy stage marks →
-      Story policy (seenAt t stage) (conflicted t ∷ marks)
+      Story policy (seenAt t stage) (mark aConflict t ∷ marks)
   unfolding isSoundStage
   kept-story Free e sound story = absurd story
   kept-story (Probing sent deadline) e sound story = absurd (true≢false (ap isLose e))
@@ -69,14 +69,14 @@ module _ (policy : ℕ) (latest t : Time) (later : latest .0 ≤ t .0) (marks : 
   kept-story (Settled conflict) e sound story = kept-in-use conflict 2 story e sound
 
   defended-in-use : (conflict : Moment) (sent : ℕ) → InUse policy conflict sent marks → byPolicy policy t conflict ≡ Defend →
-      isPast latest conflict ≡ true → InUse policy (At t) sent (defended t ∷ (conflicted t ∷ marks))
+      isPast latest conflict ≡ true → InUse policy (At t) sent (mark aDefence t ∷ (mark aConflict t ∷ marks))
   defended-in-use conflict sent w e past =
       let facts = defended-bears policy conflict sent t marks w e in
       defence-sent policy conflict sent t marks
       (conflict-borne policy conflict sent t marks w (past-later latest t conflict later past) (facts .0)) (w .behind) (facts .1)
 
   defended-story : (stage : Stage) → responseAt policy t stage ≡ Defend → isSoundStage latest stage ≡ true → Story policy stage marks →
-      Story policy (seenAt t stage) (defended t ∷ (conflicted t ∷ marks))
+      Story policy (seenAt t stage) (mark aDefence t ∷ (mark aConflict t ∷ marks))
   unfolding isSoundStage
   defended-story Free e sound story = absurd story
   defended-story (Probing sent deadline) e sound story = absurd (true≢false (ap isLose e))
@@ -94,13 +94,13 @@ module _ (own : HardwareAddress) (t : Time) (f : Frame) where
   hits (c ∷ earlier) = cond (isHit c) 1 0 + hits earlier
 
   count-struck : (claims : List Claim) → conflictCount (map (struck own t f) claims) ≡ hits claims + conflictCount claims
-  unfolding conflictCount conflicts hits
+  unfolding conflictCount timesOf hits
   count-struck [] = refl
   count-struck (c ∷ earlier) = go (isHit c) (count-struck earlier)
     where
       go : (b : Bool) → conflictCount (map (struck own t f) earlier) ≡ hits earlier + conflictCount earlier →
-          length (conflicts (cond b (marked (conflicted t) c) c .marks)) + conflictCount (map (struck own t f) earlier)
-          ≡ cond b 1 0 + hits earlier + (length (conflicts (c .marks)) + conflictCount earlier)
+          length (timesOf aConflict (cond b (marked (mark aConflict t) c) c .marks)) + conflictCount (map (struck own t f) earlier)
+          ≡ cond b 1 0 + hits earlier + (length (timesOf aConflict (c .marks)) + conflictCount earlier)
       go true later = omega arith
       go false later = omega arith
 
@@ -154,9 +154,9 @@ module _ (own : HardwareAddress) (s : Interface) (claims : List Claim) (asks : L
 
     untouched-claims : map (struck own t f) claims ≡ claims
     untouched-claims =
-        same-each (isConflictWith own f) (conflicted t) claims
+        same-each (isConflictWith own f) (mark aConflict t) claims
         (on-each (λ c. struck own t f c ≡ c) claims
-        (λ address. unconcerned-each (isConflictWith own f) (conflicted t) address (s .records) (on address claims)
+        (λ address. unconcerned-each (isConflictWith own f) (mark aConflict t) address (s .records) (on address claims)
         (linked .links address) (spared address)))
 
     packet-nothing : LinkedAfter own claims asks (packet t bytes out) (meet s t f none)
@@ -201,9 +201,9 @@ module _ (own : HardwareAddress) (s : Interface) (claims : List Claim) (asks : L
 
     on-other : (other : Ipv4Address) → (other .0 ≡ r .address .0 → ⊥) → on other (map (struck own t f) claims) ≡ on other claims
     on-other other apart =
-        on-changed (isConflictWith own f) (conflicted t) other claims
-        ∙ same-each (isConflictWith own f) (conflicted t) (on other claims)
-        (unconcerned-each (isConflictWith own f) (conflicted t) other (s .records) (on other claims) (linked .links other) (spared-other other apart))
+        on-changed (isConflictWith own f) (mark aConflict t) other claims
+        ∙ same-each (isConflictWith own f) (mark aConflict t) (on other claims)
+        (unconcerned-each (isConflictWith own f) (mark aConflict t) other (s .records) (on other claims) (linked .links other) (spared-other other apart))
 
     links-other : (new : Record) → ((other : Ipv4Address) → (other .0 ≡ r .address .0 → ⊥) → holds other new ≡ false) →
         (other : Ipv4Address) → (other .0 ≡ r .address .0 → ⊥) →
@@ -238,10 +238,10 @@ module _ (own : HardwareAddress) (s : Interface) (claims : List Claim) (asks : L
       unfolding r
       hit = agreed-conflict slot (here .latest) agreed ∙ conflicting
 
-      on-mine : on (r .address) (map (struck own t f) claims) ≡ marked (conflicted t) (here .latest) ∷ here .older
+      on-mine : on (r .address) (map (struck own t f) claims) ≡ marked (mark aConflict t) (here .latest) ∷ here .older
       on-mine =
-          on-changed (isConflictWith own f) (conflicted t) (r .address) claims
-          ∙ concerned-marked (isConflictWith own f) (conflicted t) (r .address) (s .records) (on (r .address) claims) here hit
+          on-changed (isConflictWith own f) (mark aConflict t) (r .address) claims
+          ∙ concerned-marked (isConflictWith own f) (mark aConflict t) (r .address) (s .records) (on (r .address) claims) here hit
 
       one-hit : hits own t f claims ≡ 1
       unfolding hits
@@ -279,7 +279,7 @@ module _ (own : HardwareAddress) (s : Interface) (claims : List Claim) (asks : L
             links = by-address (λ (a : Ipv4Address). Link a (set (s .records) slot freeRecord) (on a (map (struck own t f) claims))) (r .address)
                 (rw on-mine
                 (inl (link-over (s .records) slot freeRecord room (r .address) (on (r .address) claims) here mine
-                (marked (conflicted t) (here .latest)) refl
+                (marked (mark aConflict t) (here .latest)) refl
                 (record {
                   ended = rw (agreed .samePolicy)
                       (lost-story (r .policy) (s .latest) t (admission .notBefore) (here .latest .marks) (r .stage) e (agreed .story));
@@ -307,7 +307,7 @@ module _ (own : HardwareAddress) (s : Interface) (claims : List Claim) (asks : L
             links = by-address (λ (a : Ipv4Address). Link a (set (s .records) slot seen) (on a (map (struck own t f) claims))) (r .address)
                 (rw on-mine
                 (inr (link-goes-on (s .records) slot seen room (r .address) (on (r .address) claims) here mine
-                (marked (conflicted t) (here .latest)) (holds-own seen seen-taken)
+                (marked (mark aConflict t) (here .latest)) (holds-own seen seen-taken)
                 (record {
                   sameAddress = agreed .sameAddress;
                   sameSlot = agreed .sameSlot;
@@ -327,23 +327,23 @@ module _ (own : HardwareAddress) (s : Interface) (claims : List Claim) (asks : L
           ap (λ (g : Frame). g .target .ip)
           (announcement-reads (s .hardware) (r .address) (sound s (admission .sound) .own) (sound-at s slot (admission .sound) held .allowed) out)
 
-      defence-conflicts : (marks : List Mark) → conflicts (defended t ∷ marks) ≡ conflicts marks
-      unfolding conflicts
+      defence-conflicts : (marks : List Mark) → timesOf aConflict (mark aDefence t ∷ marks) ≡ timesOf aConflict marks
+      unfolding timesOf
       defence-conflicts marks = refl
 
       defended-claims : List Claim
-      defended-claims = markedLatest (r .address) (defended t) (map (struck own t f) claims)
+      defended-claims = markedLatest (r .address) (mark aDefence t) (map (struck own t f) claims)
 
       defended-count : conflictCount defended-claims ≡ conflictCount (map (struck own t f) claims)
       unfolding defended-claims
-      defended-count = count-marked (r .address) (defended t) defence-conflicts (map (struck own t f) claims)
+      defended-count = count-marked (r .address) (mark aDefence t) defence-conflicts (map (struck own t f) claims)
 
       defend-here : responseAt (r .policy) t (r .stage) ≡ Defend → Link (r .address) (set (s .records) slot seen) (on (r .address) defended-claims)
       unfolding defended-claims seen r
       defend-here e =
-          rw (on-marked (r .address) (defended t) (map (struck own t f) claims), on-mine)
+          rw (on-marked (r .address) (mark aDefence t) (map (struck own t f) claims), on-mine)
           (inr (link-goes-on (s .records) slot seen room (r .address) (on (r .address) claims) here mine
-          (marked (defended t) (marked (conflicted t) (here .latest))) (holds-own seen seen-taken)
+          (marked (mark aDefence t) (marked (mark aConflict t) (here .latest))) (holds-own seen seen-taken)
           (record {
             sameAddress = agreed .sameAddress;
             sameSlot = agreed .sameSlot;
@@ -354,7 +354,7 @@ module _ (own : HardwareAddress) (s : Interface) (claims : List Claim) (asks : L
       defend-elsewhere : (other : Ipv4Address) → (other .0 ≡ r .address .0 → ⊥) → Link other (set (s .records) slot seen) (on other defended-claims)
       unfolding defended-claims seen r
       defend-elsewhere other apart =
-          rw (on-marked-other other (r .address) (λ e. apart (sym e)) (defended t) (map (struck own t f) claims))
+          rw (on-marked-other other (r .address) (λ e. apart (sym e)) (mark aDefence t) (map (struck own t f) claims))
           (links-other seen (λ other apart. holds-no-other other seen apart) other apart)
 
       defended-linked : responseAt (r .policy) t (r .stage) ≡ Defend →

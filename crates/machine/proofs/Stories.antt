@@ -16,7 +16,7 @@ use Rattle.machine.specs.Timing.{rfc5227, gap, isWithin}
 use Rattle.machine.specs.Interface.{isPast}
 use Rattle.machine.specs.Conflicts.{byPolicy}
 use Rattle.machine.specs.Calls.{delay}
-use Rattle.machine.specs.Claims.{Mark, probed, announced, defended, conflicted, dropped, isInUse, lastConflict, isSurrender, isOpenAfter, probes, announcements, defences, conflicts}
+use Rattle.machine.specs.Claims.{Mark, isInUse, lastConflict, isSurrender, isOpenAfter, mark, aProbe, anAnnouncement, aDefence, aConflict, aDrop, timesOf, Sign}
 use Rattle.machine.specs.Demand3.{Spaced, IsAfter}
 
 -- One more time, the latest.
@@ -25,28 +25,29 @@ spaced-cons ms time [] after spaced = tt
 spaced-cons ms time (before ∷ earlier) after spaced = (after, spaced)
 
 -- A claim that has sent nothing but probes.
+abbrev pub IsProbe : Sign → Type 0
+IsProbe aProbe = Unit {0}
+IsProbe anAnnouncement = ⊥
+IsProbe aDefence = ⊥
+IsProbe aConflict = ⊥
+IsProbe aDrop = ⊥
+
 abbrev pub OnlyProbes : List Mark → Type 0
 OnlyProbes [] = Unit {0}
-OnlyProbes (probed t ∷ earlier) = OnlyProbes earlier
-OnlyProbes (announced t ∷ earlier) = ⊥
-OnlyProbes (defended t ∷ earlier) = ⊥
-OnlyProbes (conflicted t ∷ earlier) = ⊥
-OnlyProbes (dropped t ∷ earlier) = ⊥
+OnlyProbes (m ∷ earlier) = IsProbe (m .sign) × OnlyProbes earlier
 
 pub record Untouched (policy : ℕ) (marks : List Mark) : Type 0 where
   pub notInUse : isInUse marks ≡ false
   pub stillOpen : isOpenAfter policy marks ≡ true
-  pub noAnnouncements : announcements marks ≡ []
-  pub noDefences : defences marks ≡ []
-  pub noConflicts : conflicts marks ≡ []
+  pub noAnnouncements : timesOf anAnnouncement marks ≡ []
+  pub noDefences : timesOf aDefence marks ≡ []
+  pub noConflicts : timesOf aConflict marks ≡ []
   pub noLastConflict : lastConflict marks ≡ Never
 
-pub untouched : (policy : ℕ) (marks : List Mark) → OnlyProbes marks → Untouched policy marks
-unfolding isInUse isOpenAfter announcements defences conflicts lastConflict
-untouched policy [] only =
-    record { notInUse = refl; stillOpen = refl; noAnnouncements = refl; noDefences = refl; noConflicts = refl; noLastConflict = refl }
-untouched policy (probed t ∷ earlier) only =
-    let w = untouched policy earlier only in
+untouched-probe : (policy : ℕ) (sign : Sign) (t : Time) (earlier : List Mark) → IsProbe sign → Untouched policy earlier →
+    Untouched policy (mark sign t ∷ earlier)
+unfolding timesOf isOpenAfter
+untouched-probe policy aProbe t earlier only w =
     record {
       notInUse = w .notInUse;
       stillOpen = w .stillOpen;
@@ -55,16 +56,22 @@ untouched policy (probed t ∷ earlier) only =
       noConflicts = w .noConflicts;
       noLastConflict = w .noLastConflict;
     }
-untouched policy (announced t ∷ earlier) only = absurd only
-untouched policy (defended t ∷ earlier) only = absurd only
-untouched policy (conflicted t ∷ earlier) only = absurd only
-untouched policy (dropped t ∷ earlier) only = absurd only
+untouched-probe policy anAnnouncement t earlier only w = absurd only
+untouched-probe policy aDefence t earlier only w = absurd only
+untouched-probe policy aConflict t earlier only w = absurd only
+untouched-probe policy aDrop t earlier only w = absurd only
+
+pub untouched : (policy : ℕ) (marks : List Mark) → OnlyProbes marks → Untouched policy marks
+unfolding timesOf isOpenAfter
+untouched policy [] only =
+    record { notInUse = refl; stillOpen = refl; noAnnouncements = refl; noDefences = refl; noConflicts = refl; noLastConflict = refl }
+untouched policy (m ∷ earlier) only = untouched-probe policy (m .sign) (m .time) earlier (only .0) (untouched policy earlier (only .1))
 
 -- What demand 3 asks of every claim's frames.
 pub record Bounded (marks : List Mark) : Type 0 where
-  pub fewProbes : length (probes marks) ≤ rfc5227 .probeNum
-  pub fewAnnouncements : length (announcements marks) ≤ rfc5227 .announceNum
-  pub defencesApart : Spaced (rfc5227 .defendInterval) (defences marks)
+  pub fewProbes : length (timesOf aProbe marks) ≤ rfc5227 .probeNum
+  pub fewAnnouncements : length (timesOf anAnnouncement marks) ≤ rfc5227 .announceNum
+  pub defencesApart : Spaced (rfc5227 .defendInterval) (timesOf aDefence marks)
 
 -- The least delay after so many probes, and a claim that has sent so many, the next frame being due at a deadline.
 abbrev pub leastDelay : ℕ → ℕ
@@ -79,31 +86,31 @@ least-delay sent draw = go (ltb sent (rfc5227 .probeNum))
 
 pub record Probed (sent deadline : ℕ) (marks : List Mark) : Type 0 where
   pub only : OnlyProbes marks
-  pub number : length (probes marks) ≡ sent
+  pub number : length (timesOf aProbe marks) ≡ sent
   pub atMost : sent ≤ rfc5227 .probeNum
-  pub apart : Spaced (rfc5227 .probeMin) (probes marks)
-  pub due : IsAfter (leastDelay sent) (probes marks) deadline
+  pub apart : Spaced (rfc5227 .probeMin) (timesOf aProbe marks)
+  pub due : IsAfter (leastDelay sent) (timesOf aProbe marks) deadline
 
 pub after-later : (ms : ℕ) (times : List ℕ) (time later : ℕ) → time ≤ later → IsAfter ms times time → IsAfter ms times later
 after-later ms [] time later h after = tt
 after-later ms (latest ∷ earlier) time later h after = omega arith
 
 pub asked : (deadline : ℕ) → Probed 0 deadline []
-unfolding probes
+unfolding timesOf
 asked deadline = record { only = tt; number = refl; atMost = omega arith; apart = tt; due = tt }
 
 pub probe-sent : (sent deadline draw : ℕ) (t : Time) (marks : List Mark) → Probed sent deadline marks → sent < rfc5227 .probeNum →
-    deadline ≤ t .0 → Probed (suc sent) (t .0 + delay (suc sent) draw) (probed t ∷ marks)
-unfolding probes
+    deadline ≤ t .0 → Probed (suc sent) (t .0 + delay (suc sent) draw) (mark aProbe t ∷ marks)
+unfolding timesOf
 probe-sent sent deadline draw t marks w more late =
     let least = least-delay (suc sent) draw in
     let first : leastDelay sent ≡ rfc5227 .probeMin = rw (lt-ltb sent (rfc5227 .probeNum) more) in
     record {
-      only = w .only;
+      only = (tt, w .only);
       number = ap suc (w .number);
       atMost = more;
-      apart = spaced-cons (rfc5227 .probeMin) (t .0) (probes marks)
-          (rw first at (after-later (leastDelay sent) (probes marks) deadline (t .0) late (w .due))) (w .apart);
+      apart = spaced-cons (rfc5227 .probeMin) (t .0) (timesOf aProbe marks)
+          (rw first at (after-later (leastDelay sent) (timesOf aProbe marks) deadline (t .0) late (w .due))) (w .apart);
       due = omega arith;
     }
 
@@ -129,19 +136,19 @@ pub record InUse (policy : ℕ) (conflict : Moment) (sent : ℕ) (marks : List M
   pub since : List Mark
   pub announcedAt : Time
   pub before : List Mark
-  pub split : marks ≡ since ++ (announced announcedAt ∷ before)
+  pub split : marks ≡ since ++ (mark anAnnouncement announcedAt ∷ before)
   pub through : Probed (rfc5227 .probeNum) (announcedAt .0) before
-  pub allProbes : length (probes marks) ≡ rfc5227 .probeNum
-  pub number : length (announcements marks) ≡ sent
+  pub allProbes : length (timesOf aProbe marks) ≡ rfc5227 .probeNum
+  pub number : length (timesOf anAnnouncement marks) ≡ sent
   pub inUse : isInUse marks ≡ true
   pub stillOpen : isOpenAfter policy marks ≡ true
   pub last : lastConflict marks ≡ conflict
-  pub apart : Spaced (rfc5227 .defendInterval) (defences marks)
-  pub behind : Behind (defences marks) conflict
+  pub apart : Spaced (rfc5227 .defendInterval) (timesOf aDefence marks)
+  pub behind : Behind (timesOf aDefence marks) conflict
 
 pub first-announced : (policy deadline : ℕ) (t : Time) (marks : List Mark) → Probed (rfc5227 .probeNum) deadline marks → deadline ≤ t .0 →
-    InUse policy Never 1 (announced t ∷ marks)
-unfolding probes announcements defences isInUse isOpenAfter lastConflict
+    InUse policy Never 1 (mark anAnnouncement t ∷ marks)
+unfolding timesOf isOpenAfter
 first-announced policy deadline t marks w late =
     let quiet = untouched policy marks (w .only) in
     record {
@@ -154,7 +161,7 @@ first-announced policy deadline t marks w late =
         number = w .number;
         atMost = w .atMost;
         apart = w .apart;
-        due = after-later (leastDelay (rfc5227 .probeNum)) (probes marks) deadline (t .0) late (w .due);
+        due = after-later (leastDelay (rfc5227 .probeNum)) (timesOf aProbe marks) deadline (t .0) late (w .due);
       };
       allProbes = w .number;
       number = rw (quiet .noAnnouncements);
@@ -166,14 +173,14 @@ first-announced policy deadline t marks w late =
     }
 
 pub second-announced : (policy : ℕ) (conflict : Moment) (t : Time) (marks : List Mark) → InUse policy conflict 1 marks →
-    InUse policy conflict 2 (announced t ∷ marks)
-unfolding probes announcements defences isInUse isOpenAfter lastConflict
+    InUse policy conflict 2 (mark anAnnouncement t ∷ marks)
+unfolding timesOf isOpenAfter
 second-announced policy conflict t marks w =
     record {
-      since = announced t ∷ w .since;
+      since = mark anAnnouncement t ∷ w .since;
       announcedAt = w .announcedAt;
       before = w .before;
-      split = ap {B = List Mark} (λ ms. announced t ∷ ms) (w .split);
+      split = ap {B = List Mark} (λ ms. mark anAnnouncement t ∷ ms) (w .split);
       through = w .through;
       allProbes = w .allProbes;
       number = ap suc (w .number);
@@ -190,14 +197,14 @@ behind-later (d ∷ earlier) Never t past behind = absurd behind
 behind-later (d ∷ earlier) (At last) t past behind = let h = leb-true (last .0) (t .0) past in omega arith
 
 pub conflict-borne : (policy : ℕ) (conflict : Moment) (sent : ℕ) (t : Time) (marks : List Mark) → InUse policy conflict sent marks →
-    isPast t conflict ≡ true → isSurrender policy marks t ≡ false → InUse policy (At t) sent (conflicted t ∷ marks)
-unfolding probes announcements defences isInUse isOpenAfter lastConflict
+    isPast t conflict ≡ true → isSurrender policy marks t ≡ false → InUse policy (At t) sent (mark aConflict t ∷ marks)
+unfolding timesOf isOpenAfter
 conflict-borne policy conflict sent t marks w past borne =
     record {
-      since = conflicted t ∷ w .since;
+      since = mark aConflict t ∷ w .since;
       announcedAt = w .announcedAt;
       before = w .before;
-      split = ap {B = List Mark} (λ ms. conflicted t ∷ ms) (w .split);
+      split = ap {B = List Mark} (λ ms. mark aConflict t ∷ ms) (w .split);
       through = w .through;
       allProbes = w .allProbes;
       number = w .number;
@@ -205,7 +212,7 @@ conflict-borne policy conflict sent t marks w past borne =
       stillOpen = rw (w .stillOpen, w .inUse, rw (w .inUse) at borne);
       last = refl;
       apart = w .apart;
-      behind = behind-later (defences marks) conflict t past (w .behind);
+      behind = behind-later (timesOf aDefence marks) conflict t past (w .behind);
     }
 
 defence-after : (times : List ℕ) (conflict : Moment) (t : Time) → isWithin (rfc5227 .defendInterval) t conflict ≡ false →
@@ -216,23 +223,23 @@ defence-after (d ∷ earlier) (At last) t quiet behind =
     let h = ltb-false (t .0) (last .0 + rfc5227 .defendInterval) quiet in omega arith
 
 -- A defence of the conflict just seen, the one before it being long ago or none.
-pub defence-sent : (policy : ℕ) (conflict : Moment) (sent : ℕ) (t : Time) (marks : List Mark) → InUse policy (At t) sent (conflicted t ∷ marks) →
-    Behind (defences marks) conflict → isWithin (rfc5227 .defendInterval) t conflict ≡ false →
-    InUse policy (At t) sent (defended t ∷ (conflicted t ∷ marks))
-unfolding probes announcements defences isInUse isOpenAfter lastConflict
+pub defence-sent : (policy : ℕ) (conflict : Moment) (sent : ℕ) (t : Time) (marks : List Mark) → InUse policy (At t) sent (mark aConflict t ∷ marks) →
+    Behind (timesOf aDefence marks) conflict → isWithin (rfc5227 .defendInterval) t conflict ≡ false →
+    InUse policy (At t) sent (mark aDefence t ∷ (mark aConflict t ∷ marks))
+unfolding timesOf isOpenAfter
 defence-sent policy conflict sent t marks w behind quiet =
     record {
-      since = defended t ∷ w .since;
+      since = mark aDefence t ∷ w .since;
       announcedAt = w .announcedAt;
       before = w .before;
-      split = ap {B = List Mark} (λ ms. defended t ∷ ms) (w .split);
+      split = ap {B = List Mark} (λ ms. mark aDefence t ∷ ms) (w .split);
       through = w .through;
       allProbes = w .allProbes;
       number = w .number;
       inUse = w .inUse;
       stillOpen = w .stillOpen;
       last = w .last;
-      apart = spaced-cons (rfc5227 .defendInterval) (t .0) (defences marks) (defence-after (defences marks) conflict t quiet behind) (w .apart);
+      apart = spaced-cons (rfc5227 .defendInterval) (t .0) (timesOf aDefence marks) (defence-after (timesOf aDefence marks) conflict t quiet behind) (w .apart);
       behind = omega arith;
     }
 
@@ -244,36 +251,31 @@ in-use-bounded policy conflict sent marks few w =
     record { fewProbes = omega arith; fewAnnouncements = omega arith; defencesApart = w .apart }
 
 -- A conflict or a drop sends nothing, and a claim that it ends is ended.
-pub bounded-conflicted : (t : Time) (marks : List Mark) → Bounded marks → Bounded (conflicted t ∷ marks)
-unfolding probes announcements defences
+pub bounded-conflicted : (t : Time) (marks : List Mark) → Bounded marks → Bounded (mark aConflict t ∷ marks)
+unfolding timesOf
 bounded-conflicted t marks w =
     record { fewProbes = w .fewProbes; fewAnnouncements = w .fewAnnouncements; defencesApart = w .defencesApart }
 
-pub bounded-dropped : (t : Time) (marks : List Mark) → Bounded marks → Bounded (dropped t ∷ marks)
-unfolding probes announcements defences
+pub bounded-dropped : (t : Time) (marks : List Mark) → Bounded marks → Bounded (mark aDrop t ∷ marks)
+unfolding timesOf
 bounded-dropped t marks w =
     record { fewProbes = w .fewProbes; fewAnnouncements = w .fewAnnouncements; defencesApart = w .defencesApart }
 
-pub ended-before-use : (policy : ℕ) (t : Time) (marks : List Mark) → isInUse marks ≡ false → isOpenAfter policy (conflicted t ∷ marks) ≡ false
+pub ended-before-use : (policy : ℕ) (t : Time) (marks : List Mark) → isInUse marks ≡ false →
+    isOpenAfter policy (mark aConflict t ∷ marks) ≡ false
 unfolding isOpenAfter
-ended-before-use policy t marks e = rw e (go (isOpenAfter policy marks))
+ended-before-use policy t marks e = rw e
+
+pub ended-by-surrender : (policy : ℕ) (t : Time) (marks : List Mark) → isSurrender policy marks t ≡ true →
+    isOpenAfter policy (mark aConflict t ∷ marks) ≡ false
+unfolding isOpenAfter
+ended-by-surrender policy t marks e = rw e (go (isInUse marks))
   where
-    go : (b : Bool) → (b && false && true) ≡ false
+    go : (b : Bool) → (b && false && isOpenAfter policy marks) ≡ false
     go true = refl
     go false = refl
 
-pub ended-by-surrender : (policy : ℕ) (t : Time) (marks : List Mark) → isSurrender policy marks t ≡ true →
-    isOpenAfter policy (conflicted t ∷ marks) ≡ false
-unfolding isOpenAfter
-ended-by-surrender policy t marks e = rw e (go (isOpenAfter policy marks) (isInUse marks))
-  where
-    go : (a b : Bool) → (a && b && false) ≡ false
-    go true true = refl
-    go true false = refl
-    go false true = refl
-    go false false = refl
-
-pub ended-by-drop : (policy : ℕ) (t : Time) (marks : List Mark) → isOpenAfter policy (dropped t ∷ marks) ≡ false
+pub ended-by-drop : (policy : ℕ) (t : Time) (marks : List Mark) → isOpenAfter policy (mark aDrop t ∷ marks) ≡ false
 unfolding isOpenAfter
 ended-by-drop policy t marks = refl
 

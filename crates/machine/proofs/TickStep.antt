@@ -27,7 +27,7 @@ use Rattle.machine.specs.Interface.{isOwnHardware, isAllowed, isFreeStag
 use Rattle.machine.specs.Deadlines.{deadlineOf, dueSlot}
 use Rattle.machine.specs.Calls.{tick, Service, serviceAt, service, serve, tickOutcome}
 use Rattle.machine.specs.Refusals.{tickRefusal}
-use Rattle.machine.specs.Claims.{Mark, Claim, probed, announced, hasFrame, ticked, marked, markedLatest, claimsAfter, conflicts}
+use Rattle.machine.specs.Claims.{Mark, Claim, hasFrame, ticked, marked, markedLatest, claimsAfter, mark, aProbe, anAnnouncement, aConflict, timesOf}
 use Rattle.machine.proofs.SlotLaws.{none≢some}
 use Rattle.machine.proofs.DeadlineLaws.{Due, due-slot}
 use Rattle.machine.proofs.Acceptance.{Admitted, tick-accepted, sound, sound-at, allowed-number, probe-reads, announcement-reads}
@@ -48,11 +48,11 @@ record Served (own : HardwareAddress) (address : Ipv4Address) (policy : ℕ) (t 
 
 module _ (own : HardwareAddress) (address : Ipv4Address) (policy : ℕ) (t : Time) (draw : ℕ) (marks : List Mark)
     (owned : isOwnHardware own ≡ true) (allowed : isAllowed address ≡ true) where
-  announces : ticked t (announcement own address) ≡ announced t
+  announces : ticked t (announcement own address) ≡ mark anAnnouncement t
   unfolding announcement
   announces = rw (ne-eqb (address .0) 0 (λ e. let h = allowed-number address allowed .0 in omega arith))
 
-  announced-served : (kind : Kind) (stage : Stage) → hasFrame kind ≡ true → isFreeStage stage ≡ false → Story policy stage (announced t ∷ marks) →
+  announced-served : (kind : Kind) (stage : Stage) → hasFrame kind ≡ true → isFreeStage stage ≡ false → Story policy stage (mark anAnnouncement t ∷ marks) →
       Served own address policy t marks (record { kind = kind; stage = stage; frame = some (announcement own address) })
   unfolding announcement
   announced-served kind stage counts taken story =
@@ -139,14 +139,14 @@ module _ (own : HardwareAddress) (s : Interface) (claims : List Claim) (asks : L
           (sound s (admission .sound) .own) (sound-at s slot (admission .sound) held .allowed)
           (r .stage) (due .deadline) (due .has) (due .late) (agreed .story)
 
-      mark : Mark
-      mark = ticked time (serves .frame)
+      sent : Mark
+      sent = ticked time (serves .frame)
 
-      tick-here : Link (r .address) (set (s .records) slot new) (on (r .address) (markedLatest (r .address) mark claims))
-      unfolding new mark
+      tick-here : Link (r .address) (set (s .records) slot new) (on (r .address) (markedLatest (r .address) sent claims))
+      unfolding new sent
       tick-here =
-          rw (on-marked (r .address) mark claims, here .claimed)
-          (inr (link-goes-on (s .records) slot new (due .room) (r .address) (on (r .address) claims) here mine (marked mark (here .latest))
+          rw (on-marked (r .address) sent claims, here .claimed)
+          (inr (link-goes-on (s .records) slot new (due .room) (r .address) (on (r .address) claims) here mine (marked sent (here .latest))
           (holds-own new (serves .taken))
           (record {
             sameAddress = agreed .sameAddress;
@@ -156,30 +156,30 @@ module _ (own : HardwareAddress) (s : Interface) (claims : List Claim) (asks : L
           })))
 
       tick-elsewhere : (other : Ipv4Address) → (other .0 ≡ r .address .0 → ⊥) →
-          Link other (set (s .records) slot new) (on other (markedLatest (r .address) mark claims))
+          Link other (set (s .records) slot new) (on other (markedLatest (r .address) sent claims))
       unfolding new r
       tick-elsewhere other apart =
-          rw (on-marked-other other (r .address) (λ e. apart (sym e)) mark claims)
+          rw (on-marked-other other (r .address) (λ e. apart (sym e)) sent claims)
           (link-elsewhere (s .records) slot new (due .room) other (on other claims)
           (holds-no-other other r apart) (holds-no-other other new apart) (linked .links other))
 
-      mark-conflicts : (marks : List Mark) → conflicts (mark ∷ marks) ≡ conflicts marks
-      unfolding conflicts mark
+      mark-conflicts : (marks : List Mark) → timesOf aConflict (sent ∷ marks) ≡ timesOf aConflict marks
+      unfolding timesOf sent
       mark-conflicts marks = go (eqb (serves .frame .sender .ip .0) 0)
         where
-          go : (b : Bool) → conflicts (cond b (probed time) (announced time) ∷ marks) ≡ conflicts marks
+          go : (b : Bool) → timesOf aConflict (mark (cond b aProbe anAnnouncement) time ∷ marks) ≡ timesOf aConflict marks
           go true = refl
           go false = refl
 
       tick-linked : LinkedAfter own claims asks (tick time draw out) (serve s time draw (some slot))
-      unfolding claimsAfter r served new mark
+      unfolding claimsAfter r served new sent
       tick-linked =
-          let same = count-marked (r .address) mark mark-conflicts claims in
+          let same = count-marked (r .address) sent mark-conflicts claims in
           rw (serves .sends, serves .counts, serves .reads out, serves .target)
           (record {
             hardware = linked .hardware;
             links = by-address
-                (λ (a : Ipv4Address). Link a (set (s .records) slot new) (on a (markedLatest (r .address) mark claims)))
+                (λ (a : Ipv4Address). Link a (set (s .records) slot new) (on a (markedLatest (r .address) sent claims)))
                 (r .address) tick-here tick-elsewhere;
             count = rw same (linked .count);
             asksApart = linked .asksApart;

@@ -28,12 +28,32 @@ pub record Event : Type 0 where
   pub out : List ℕ
 
 -- What befalls a claim, and when.
-pub data Mark : Type 0 where
-  probed : Time → Mark
-  announced : Time → Mark
-  defended : Time → Mark
-  conflicted : Time → Mark
-  dropped : Time → Mark
+pub data Sign : Type 0 where
+  aProbe : Sign
+  anAnnouncement : Sign
+  aDefence : Sign
+  aConflict : Sign
+  aDrop : Sign
+
+pub record Mark : Type 0 where
+  pub sign : Sign
+  pub time : Time
+
+abbrev pub mark : Sign → Time → Mark
+mark sign t = record { sign = sign; time = t }
+
+abbrev pub signNumber : Sign → ℕ
+signNumber aProbe = 1
+signNumber anAnnouncement = 2
+signNumber aDefence = 3
+signNumber aConflict = 4
+signNumber aDrop = 5
+
+-- The times of a claim's marks of one sign, the latest first.
+unfoldable pub timesOf : Sign → List Mark → List ℕ
+timesOf sign [] = []
+timesOf sign (m ∷ earlier) =
+    cond (eqb (signNumber (m .sign)) (signNumber sign)) (m .time .0 ∷ timesOf sign earlier) (timesOf sign earlier)
 
 -- "An ask opens a claim on its address, with its policy, in the slot that it reports." Its marks, the latest first.
 pub record Claim : Type 0 where
@@ -43,22 +63,20 @@ pub record Claim : Type 0 where
   pub marks : List Mark
 
 -- "From its first announcement a claim is in use."
-unfoldable pub isInUse : List Mark → Bool
-isInUse [] = false
-isInUse (probed t ∷ earlier) = isInUse earlier
-isInUse (announced t ∷ earlier) = true
-isInUse (defended t ∷ earlier) = isInUse earlier
-isInUse (conflicted t ∷ earlier) = isInUse earlier
-isInUse (dropped t ∷ earlier) = isInUse earlier
+abbrev pub isAny : List ℕ → Bool
+isAny [] = false
+isAny (t ∷ earlier) = true
+
+abbrev pub isInUse : List Mark → Bool
+isInUse marks = isAny (timesOf anAnnouncement marks)
 
 -- "This claim's previous conflict."
-unfoldable pub lastConflict : List Mark → Moment
-lastConflict [] = Never
-lastConflict (probed t ∷ earlier) = lastConflict earlier
-lastConflict (announced t ∷ earlier) = lastConflict earlier
-lastConflict (defended t ∷ earlier) = lastConflict earlier
-lastConflict (conflicted t ∷ earlier) = At t
-lastConflict (dropped t ∷ earlier) = lastConflict earlier
+abbrev pub latest : List ℕ → Moment
+latest [] = Never
+latest (t ∷ earlier) = At (record { 0 = t })
+
+abbrev pub lastConflict : List Mark → Moment
+lastConflict marks = latest (timesOf aConflict marks)
 
 -- "In use it ends it under policy 1, and under policy 2 if this claim's previous conflict was less than 10,000 ms earlier:
 -- that is a surrender."
@@ -67,14 +85,16 @@ isSurrender policy earlier t =
     isInUse earlier && (eqb policy 1 || (eqb policy 2 && isWithin (rfc5227 .defendInterval) t (lastConflict earlier)))
 
 -- "A conflict before use ends the claim." "A drop of its slot ends an open claim."
+abbrev pub isBorne : ℕ → List Mark → Time → Sign → Bool
+isBorne policy earlier t aProbe = true
+isBorne policy earlier t anAnnouncement = true
+isBorne policy earlier t aDefence = true
+isBorne policy earlier t aConflict = isInUse earlier && not (isSurrender policy earlier t)
+isBorne policy earlier t aDrop = false
+
 unfoldable pub isOpenAfter : ℕ → List Mark → Bool
 isOpenAfter policy [] = true
-isOpenAfter policy (probed t ∷ earlier) = isOpenAfter policy earlier
-isOpenAfter policy (announced t ∷ earlier) = isOpenAfter policy earlier
-isOpenAfter policy (defended t ∷ earlier) = isOpenAfter policy earlier
-isOpenAfter policy (conflicted t ∷ earlier) =
-    isOpenAfter policy earlier && isInUse earlier && not (isSurrender policy earlier t)
-isOpenAfter policy (dropped t ∷ earlier) = false
+isOpenAfter policy (m ∷ earlier) = isBorne policy earlier (m .time) (m .sign) && isOpenAfter policy earlier
 
 abbrev pub isOpen : Claim → Bool
 isOpen c = isOpenAfter (c .policy) (c .marks)
@@ -93,26 +113,26 @@ isConflictWith own f c =
 
 -- A claim with one more mark.
 abbrev pub marked : Mark → Claim → Claim
-marked mark c = record { address = c .address; policy = c .policy; slot = c .slot; marks = mark ∷ c .marks }
+marked m c = record { address = c .address; policy = c .policy; slot = c .slot; marks = m ∷ c .marks }
 
 -- A claim after a call that concerns it, if this test holds and it is open.
 abbrev pub markedIf : Bool → Mark → Claim → Claim
-markedIf test mark c = cond (isOpen c && test) (marked mark c) c
+markedIf test m c = cond (isOpen c && test) (marked m c) c
 
 -- A claim after a packet, and after a drop of a slot.
 abbrev pub struck : HardwareAddress → Time → Frame → Claim → Claim
-struck own t f c = markedIf (isConflictWith own f c) (conflicted t) c
+struck own t f c = markedIf (isConflictWith own f c) (mark aConflict t) c
 
 abbrev pub released : Time → ℕ → Claim → Claim
-released t slot c = markedIf (isJust slot (c .slot)) (dropped t) c
+released t slot c = markedIf (isJust slot (c .slot)) (mark aDrop t) c
 
 -- "Each belongs to the latest claim on its target IP": the claims, the latest first, with a mark of that one.
 abbrev pub isOn : Ipv4Address → Claim → Bool
 isOn address c = eqb (c .address .0) (address .0)
 
 unfoldable pub markedLatest : Ipv4Address → Mark → List Claim → List Claim
-markedLatest address mark [] = []
-markedLatest address mark (c ∷ earlier) = cond (isOn address c) (marked mark c ∷ earlier) (c ∷ markedLatest address mark earlier)
+markedLatest address m [] = []
+markedLatest address m (c ∷ earlier) = cond (isOn address c) (marked m c ∷ earlier) (c ∷ markedLatest address m earlier)
 
 -- The kinds whose frame is in the out buffer. "A tick's frame is sent at the tick's time: a probe if its sender IP is zero, else
 -- a claiming announcement."
@@ -128,7 +148,7 @@ hasFrame Kept = false
 hasFrame Dropped = false
 
 abbrev pub ticked : Time → Frame → Mark
-ticked t f = cond (eqb (f .sender .ip .0) 0) (probed t) (announced t)
+ticked t f = mark (cond (eqb (f .sender .ip .0) 0) aProbe anAnnouncement) t
 
 abbrev pub withTicked : Kind → Time → Frame → List Claim → List Claim
 withTicked kind t f claims = cond (hasFrame kind) (markedLatest (f .target .ip) (ticked t f) claims) claims
@@ -146,7 +166,7 @@ isDefence Kept = false
 isDefence Dropped = false
 
 abbrev pub withDefence : Kind → Time → Frame → List Claim → List Claim
-withDefence kind t f claims = cond (isDefence kind) (markedLatest (f .target .ip) (defended t) claims) claims
+withDefence kind t f claims = cond (isDefence kind) (markedLatest (f .target .ip) (mark aDefence t) claims) claims
 
 -- The claims after an accepted call, and after a history, the latest first. An accepted fresh begins another history, so it
 -- stands in none (`History` in Demand3.antt).
@@ -173,44 +193,11 @@ unfoldable pub latestOn : Ipv4Address → List Claim → Option Claim
 latestOn address [] = none
 latestOn address (c ∷ earlier) = cond (isOn address c) (some c) (latestOn address earlier)
 
--- The times of a claim's probes, of its claiming announcements, of its defences and of its conflicts, the latest first.
-unfoldable pub probes : List Mark → List ℕ
-probes [] = []
-probes (probed t ∷ earlier) = t .0 ∷ probes earlier
-probes (announced t ∷ earlier) = probes earlier
-probes (defended t ∷ earlier) = probes earlier
-probes (conflicted t ∷ earlier) = probes earlier
-probes (dropped t ∷ earlier) = probes earlier
-
-unfoldable pub announcements : List Mark → List ℕ
-announcements [] = []
-announcements (probed t ∷ earlier) = announcements earlier
-announcements (announced t ∷ earlier) = t .0 ∷ announcements earlier
-announcements (defended t ∷ earlier) = announcements earlier
-announcements (conflicted t ∷ earlier) = announcements earlier
-announcements (dropped t ∷ earlier) = announcements earlier
-
-unfoldable pub defences : List Mark → List ℕ
-defences [] = []
-defences (probed t ∷ earlier) = defences earlier
-defences (announced t ∷ earlier) = defences earlier
-defences (defended t ∷ earlier) = t .0 ∷ defences earlier
-defences (conflicted t ∷ earlier) = defences earlier
-defences (dropped t ∷ earlier) = defences earlier
-
-unfoldable pub conflicts : List Mark → List ℕ
-conflicts [] = []
-conflicts (probed t ∷ earlier) = conflicts earlier
-conflicts (announced t ∷ earlier) = conflicts earlier
-conflicts (defended t ∷ earlier) = conflicts earlier
-conflicts (conflicted t ∷ earlier) = t .0 ∷ conflicts earlier
-conflicts (dropped t ∷ earlier) = conflicts earlier
-
 -- "The tenth conflict is counted over all claims": the conflicts of all claims, and the times of the asks that were accepted
 -- after the tenth, the latest first.
 unfoldable pub conflictCount : List Claim → ℕ
 conflictCount [] = 0
-conflictCount (c ∷ earlier) = length (conflicts (c .marks)) + conflictCount earlier
+conflictCount (c ∷ earlier) = length (timesOf aConflict (c .marks)) + conflictCount earlier
 
 abbrev pub asksBy : Call → Report Accepted → List Claim → List ℕ → List ℕ
 asksBy call (refused n) claims asks = asks

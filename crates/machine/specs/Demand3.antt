@@ -19,7 +19,7 @@ use Rattle.machine.specs.Slots.{any}
 use Rattle.machine.specs.Interface.{holds, isUsableStage}
 use Rattle.machine.specs.Calls.{Call, fresh, ask, tick, packet, drop, freshOutcome}
 use Rattle.machine.specs.Machine.{Result, resultOf, Promised}
-use Rattle.machine.specs.Claims.{Event, Mark, announced, Claim, isOpen, claimsOf, latestOn, probes, announcements, defences, conflicts, asksAfterTenth}
+use Rattle.machine.specs.Claims.{Event, Mark, mark, aProbe, anAnnouncement, aDefence, aConflict, timesOf, Claim, isOpen, claimsOf, latestOn, asksAfterTenth}
 
 -- A call of a history: its arguments, its answer, the state that it handed back, and its out buffer afterwards.
 pub record Step : Type 0 where
@@ -100,11 +100,11 @@ pub record WentThrough (c : Claim) : Type 0 where
   pub since : List Mark
   pub announcedAt : Time
   pub before : List Mark
-  pub split : c .marks ≡ since ++ (announced announcedAt ∷ before)
-  pub threeProbes : length (probes before) ≡ rfc5227 .probeNum
-  pub probesSpaced : Spaced (rfc5227 .probeMin) (probes before)
-  pub announcedAfter : IsAfter (rfc5227 .announceWait) (probes before) (announcedAt .0)
-  pub undisturbed : conflicts before ≡ []
+  pub split : c .marks ≡ since ++ (mark anAnnouncement announcedAt ∷ before)
+  pub threeProbes : length (timesOf aProbe before) ≡ rfc5227 .probeNum
+  pub probesSpaced : Spaced (rfc5227 .probeMin) (timesOf aProbe before)
+  pub announcedAfter : IsAfter (rfc5227 .announceWait) (timesOf aProbe before) (announcedAt .0)
+  pub undisturbed : timesOf aConflict before ≡ []
   -- Open: with no conflict before use, this says that there was no drop and no surrender.
   pub notGivenUp : isOpen c ≡ true
 
@@ -128,11 +128,11 @@ AtMostOneEach ms times = (a b : ℕ) → a ≤ b → countFrom a b times ≤ (b 
 
 -- "An accepted ask sends at most 3 probes and 2 claiming announcements."
 abbrev pub SendsFew : Claim → Type 0
-SendsFew c = (length (probes (c .marks)) ≤ rfc5227 .probeNum) × (length (announcements (c .marks)) ≤ rfc5227 .announceNum)
+SendsFew c = (length (timesOf aProbe (c .marks)) ≤ rfc5227 .probeNum) × (length (timesOf anAnnouncement (c .marks)) ≤ rfc5227 .announceNum)
 
 -- "From any a to any b not before it, ends included, it sends at most (b - a) / 10,000 rounded down, plus 1, defences."
 abbrev pub DefendsSeldom : Claim → Type 0
-DefendsSeldom c = AtMostOneEach (rfc5227 .defendInterval) (defences (c .marks))
+DefendsSeldom c = AtMostOneEach (rfc5227 .defendInterval) (timesOf aDefence (c .marks))
 
 -- The history without its refused calls.
 unfoldable pub acceptedOnly : List Step → List Step
