@@ -32,16 +32,16 @@ module _ (own : HardwareAddress) (f : Frame) (r : Record) where
 
   module _ (b : Bool) where
     pub conflict-probing : (sent : ℕ) (deadline : Time) → r .stage ≡ Probing sent deadline →
-        b ≡ (isFrom f (r .address .0) || (probesFor f (r .address .0) && not (isOurs own (f .sender .hardware)))) →
+        b ≡ (isFrom f (r .address) || (probesFor f (r .address) && not (isOurs own (f .sender .hardware)))) →
         b ≡ isConflict own f r
     conflict-probing sent deadline e told = rw e told
 
     pub conflict-announced : (deadline : Time) (last : Moment) → r .stage ≡ Announced deadline last →
-        b ≡ (isFrom f (r .address .0) && not (isOurs own (f .sender .hardware))) → b ≡ isConflict own f r
+        b ≡ (isFrom f (r .address) && not (isOurs own (f .sender .hardware))) → b ≡ isConflict own f r
     conflict-announced deadline last e told = rw e told
 
     pub conflict-settled : (last : Moment) → r .stage ≡ Settled last →
-        b ≡ (isFrom f (r .address .0) && not (isOurs own (f .sender .hardware))) → b ≡ isConflict own f r
+        b ≡ (isFrom f (r .address) && not (isOurs own (f .sender .hardware))) → b ≡ isConflict own f r
     conflict-settled last e told = rw e told
 
 -- Each way that `is_conflict` ends.

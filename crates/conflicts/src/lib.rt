@@ -28,21 +28,21 @@ pub fn is_ours(own: HardwareAddress, other: HardwareAddress) -> bool
 
 // Whether a packet comes from an address.
 fn is_from(frame: Frame, address: Ipv4Address) -> bool
-    ensures { λ r. ⌜ r ≡ isFrom frame (address .0) ⌝ }
+    ensures { λ r. ⌜ r ≡ isFrom frame address ⌝ }
 {
     frame.sender.ip.0 == address.0
 }
 
 // Whether a packet's sender probes for an address.
 fn probes_for(frame: Frame, address: Ipv4Address) -> bool
-    ensures { λ r. ⌜ r ≡ probesFor frame (address .0) ⌝ }
+    ensures { λ r. ⌜ r ≡ probesFor frame address ⌝ }
 {
     (frame.operation == 1) & (frame.sender.ip.0 == 0) & (frame.target.ip.0 == address.0)
 }
 
 // Whether a packet is a conflict with a probing record of an address.
 fn is_conflict_probing(own: HardwareAddress, frame: Frame, address: Ipv4Address) -> bool
-    ensures { λ r. ⌜ r ≡ (isFrom frame (address .0) || (probesFor frame (address .0) && not (isOurs own (frame .sender .hardware)))) ⌝ }
+    ensures { λ r. ⌜ r ≡ (isFrom frame address || (probesFor frame address && not (isOurs own (frame .sender .hardware)))) ⌝ }
 {
     let sender = frame.sender.hardware;
     is_from(frame, address) | (probes_for(frame, address) & !is_ours(own, sender))
@@ -50,7 +50,7 @@ fn is_conflict_probing(own: HardwareAddress, frame: Frame, address: Ipv4Address)
 
 // Whether a packet is a conflict with a usable record of an address.
 fn is_conflict_usable(own: HardwareAddress, frame: Frame, address: Ipv4Address) -> bool
-    ensures { λ r. ⌜ r ≡ (isFrom frame (address .0) && not (isOurs own (frame .sender .hardware))) ⌝ }
+    ensures { λ r. ⌜ r ≡ (isFrom frame address && not (isOurs own (frame .sender .hardware))) ⌝ }
 {
     let sender = frame.sender.hardware;
     is_from(frame, address) & !is_ours(own, sender)

@@ -23,7 +23,7 @@ pub fn ask(state: Interface, time: Time, address: Ipv4Address, policy: u64, draw
     ask::ask(state, time, address, policy, draw)
 }
 
-// Sends what is due.
+// Sends the one frame that is due first, if any.
 pub fn tick(state: Interface, time: Time, draw: u32, out: &mut [u8]) -> Called
     ensures { λ r. ⌜ Promised state (Call.tick time draw (now (out .entry))) (r .answer) (r .state) (now (out .exit)) ⌝ }
 {

@@ -42,48 +42,48 @@ tests-in-use true request zero target strange = or-false strange
 tests-in-use false request zero target strange = refl
 
 module _ (own : HardwareAddress) (f : Frame) where
-  story-conflict : (policy : ℕ) (stage : Stage) (c : Claim) (address : ℕ) → c .address .0 ≡ address → Story policy stage (c .marks) →
+  story-conflict : (policy : ℕ) (stage : Stage) (c : Claim) (address : Ipv4Address) → c .address .0 ≡ address .0 → Story policy stage (c .marks) →
       isConflictWith own f c ≡ isConflictAt own f address stage
   unfolding isConflictWith
   story-conflict policy Free c address e story = absurd story
   story-conflict policy (Probing sent deadline) c address e story =
       rw (untouched policy (c .marks) (story .only) .notInUse, e)
-      (tests-before-use (isFrom f address) (eqb (f .operation) 1) (eqb (f .sender .ip .0) 0) (eqb (f .target .ip .0) address)
+      (tests-before-use (isFrom f address) (eqb (f .operation) 1) (eqb (f .sender .ip .0) 0) (eqb (f .target .ip .0) (address .0))
       (not (isOurs own (f .sender .hardware))))
   story-conflict policy (Announced deadline conflict) c address e story =
       rw (story .inUse, e)
-      (tests-in-use (isFrom f address) (eqb (f .operation) 1) (eqb (f .sender .ip .0) 0) (eqb (f .target .ip .0) address)
+      (tests-in-use (isFrom f address) (eqb (f .operation) 1) (eqb (f .sender .ip .0) 0) (eqb (f .target .ip .0) (address .0))
       (not (isOurs own (f .sender .hardware))))
   story-conflict policy (Settled conflict) c address e story =
       rw (story .inUse, e)
-      (tests-in-use (isFrom f address) (eqb (f .operation) 1) (eqb (f .sender .ip .0) 0) (eqb (f .target .ip .0) address)
+      (tests-in-use (isFrom f address) (eqb (f .operation) 1) (eqb (f .sender .ip .0) 0) (eqb (f .target .ip .0) (address .0))
       (not (isOurs own (f .sender .hardware))))
 
   pub agrees-conflict : (slot : ℕ) (r : Record) (c : Claim) → Agrees slot r c → isConflictWith own f c ≡ isConflict own f r
-  agrees-conflict slot r c agrees = story-conflict (r .policy) (r .stage) c (r .address .0) (agrees .sameAddress) (agrees .story)
+  agrees-conflict slot r c agrees = story-conflict (r .policy) (r .stage) c (r .address) (agrees .sameAddress) (agrees .story)
 
   -- The address that a packet can be a conflict over.
   concerned : ℕ
   concerned = cond (eqb (f .sender .ip .0) 0) (f .target .ip .0) (f .sender .ip .0)
 
-  from-concerned : (address : ℕ) → 0 < address → isFrom f address ≡ true → address ≡ concerned
+  from-concerned : (address : Ipv4Address) → 0 < address .0 → isFrom f address ≡ true → address .0 ≡ concerned
   unfolding concerned
   from-concerned address h e =
-      let same = eqb-true (f .sender .ip .0) address e in
+      let same = eqb-true (f .sender .ip .0) (address .0) e in
       rw (ne-eqb (f .sender .ip .0) 0 (λ z. omega arith)) (sym same)
 
-  probe-concerned : (address : ℕ) → probesFor f address ≡ true → address ≡ concerned
+  probe-concerned : (address : Ipv4Address) → probesFor f address ≡ true → address .0 ≡ concerned
   unfolding concerned
   probe-concerned address e =
-      let two = and-both (eqb (f .operation) 1 && eqb (f .sender .ip .0) 0) (eqb (f .target .ip .0) address) e in
+      let two = and-both (eqb (f .operation) 1 && eqb (f .sender .ip .0) 0) (eqb (f .target .ip .0) (address .0)) e in
       let one = and-both (eqb (f .operation) 1) (eqb (f .sender .ip .0) 0) (two .0) in
-      rw (one .1) (sym (eqb-true (f .target .ip .0) address (two .1)))
+      rw (one .1) (sym (eqb-true (f .target .ip .0) (address .0) (two .1)))
 
-  conflict-concerned : (address : ℕ) (stage : Stage) → 0 < address → isConflictAt own f address stage ≡ true → address ≡ concerned
+  conflict-concerned : (address : Ipv4Address) (stage : Stage) → 0 < address .0 → isConflictAt own f address stage ≡ true → address .0 ≡ concerned
   conflict-concerned address Free h e = absurd (false≢true e)
   conflict-concerned address (Probing sent deadline) h e = go (isFrom f address) refl e
     where
-      go : (b : Bool) → isFrom f address ≡ b → (b || (probesFor f address && not (isOurs own (f .sender .hardware)))) ≡ true → address ≡ concerned
+      go : (b : Bool) → isFrom f address ≡ b → (b || (probesFor f address && not (isOurs own (f .sender .hardware)))) ≡ true → address .0 ≡ concerned
       go true from e = from-concerned address h from
       go false from e = probe-concerned address (and-both (probesFor f address) (not (isOurs own (f .sender .hardware))) e .0)
   conflict-concerned address (Announced deadline conflict) h e =
@@ -95,7 +95,7 @@ module _ (own : HardwareAddress) (f : Frame) where
   pub conflict-held : (r : Record) → isConflict own f r ≡ true → isFree r ≡ false
   conflict-held r e = go (r .stage) e
     where
-      go : (stage : Stage) → isConflictAt own f (r .address .0) stage ≡ true → isFreeStage stage ≡ false
+      go : (stage : Stage) → isConflictAt own f (r .address) stage ≡ true → isFreeStage stage ≡ false
       go Free e = absurd (false≢true e)
       go (Probing sent deadline) e = refl
       go (Announced deadline conflict) e = refl
@@ -115,4 +115,4 @@ module _ (own : HardwareAddress) (f : Frame) where
       at n e =
           let r = recordAt (s .records) n in
           let allowed = sound-at s n sound (conflict-held r e) .allowed in
-          conflict-concerned (r .address .0) (r .stage) (allowed-number (r .address) allowed .0) e
+          conflict-concerned (r .address) (r .stage) (allowed-number (r .address) allowed .0) e

@@ -71,7 +71,7 @@ holding policy stage count request =
       records = record { address = ipv4; policy = policy; stage = stage } ∷ freeRecord ∷ freeRecord ∷ freeRecord ∷ [];
     }
 
--- Another machine's announcement of our address, at each of these times.
+-- Another machine's announcement of our address, at this time.
 abbrev pub conflictAt : ℕ → Call
 conflictAt ms = packet (at ms) (frameBytes (announcement another ipv4)) (replicate 28 0)
 
@@ -139,17 +139,18 @@ cases =
 abbrev pub BenchCases : Type 0
 BenchCases = map (λ (c : Case). c .rules) cases ≡ map (λ (c : Case). c .paper) cases
 
--- The whole case, but for its line that is not in the form: kind, slot, next deadline and frame of each answer.
+-- The whole case, but for its line that is not in the form, and one tick more: kind, slot and next deadline of each answer, and
+-- the out buffer afterwards.
 pub record Line : Type 0 where
   pub report : Report Accepted
-  pub frame : List ℕ
+  pub out : List ℕ
 
 unfoldable pub lines : Interface → List Call → List Line
 lines s [] = []
-lines s (call ∷ later) = record { report = resultOf s call .report; frame = resultOf s call .out } ∷ lines (resultOf s call .state) later
+lines s (call ∷ later) = record { report = resultOf s call .report; out = resultOf s call .out } ∷ lines (resultOf s call .state) later
 
 abbrev pub line : Kind → Option ℕ → Option ℕ → List ℕ → Line
-line did slot next frame = record { report = accepted (record { kind = did; slot = slot; next = next }); frame = frame }
+line did slot next out = record { report = accepted (record { kind = did; slot = slot; next = next }); out = out }
 
 -- "Before the first fresh is accepted the state is all zeros."
 abbrev pub zeros : Interface
@@ -175,6 +176,7 @@ WholeCase =
     ∷ tick (at 1_600) 1_000 blank
     ∷ tick (at 3_600) 5 blank
     ∷ tick (at 5_600) 0 blank
+    ∷ tick (at 7_600) 0 blank
     ∷ [])
     ≡ line Fresh none none []
     ∷ line Taken (some 0) (some 600) []
@@ -183,4 +185,5 @@ WholeCase =
     ∷ line Probe (some 0) (some 3_600) (frameBytes (probe ours ipv4))
     ∷ line Probe (some 0) (some 5_600) (frameBytes (probe ours ipv4))
     ∷ line Announce (some 0) (some 7_600) (frameBytes (announcement ours ipv4))
+    ∷ line Announce (some 0) none (frameBytes (announcement ours ipv4))
     ∷ []

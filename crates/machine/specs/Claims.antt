@@ -84,7 +84,7 @@ abbrev pub isSurrender : ℕ → List Mark → Time → Bool
 isSurrender policy earlier t =
     isInUse earlier && (eqb policy 1 || (eqb policy 2 && isWithin (rfc5227 .defendInterval) t (lastConflict earlier)))
 
--- "A conflict before use ends the claim." "A drop of its slot ends an open claim."
+-- Whether a claim stays open through a mark: "A conflict before use ends the claim." "A drop of its slot ends an open claim."
 abbrev pub isBorne : ℕ → List Mark → Time → Sign → Bool
 isBorne policy earlier t aProbe = true
 isBorne policy earlier t anAnnouncement = true
@@ -115,7 +115,7 @@ isConflictWith own f c =
 abbrev pub marked : Mark → Claim → Claim
 marked m c = record { address = c .address; policy = c .policy; slot = c .slot; marks = m ∷ c .marks }
 
--- A claim after a call that concerns it, if this test holds and it is open.
+-- A claim with this mark, if it is open and the test holds; else as it was.
 abbrev pub markedIf : Bool → Mark → Claim → Claim
 markedIf test m c = cond (isOpen c && test) (marked m c) c
 
@@ -126,7 +126,7 @@ struck own t f c = markedIf (isConflictWith own f c) (mark aConflict t) c
 abbrev pub released : Time → ℕ → Claim → Claim
 released t slot c = markedIf (isJust slot (c .slot)) (mark aDrop t) c
 
--- "Each belongs to the latest claim on its target IP": the claims, the latest first, with a mark of that one.
+-- "Each belongs to the latest claim on its target IP": the claims, the latest first, with this mark added to that one.
 abbrev pub isOn : Ipv4Address → Claim → Bool
 isOn address c = eqb (c .address .0) (address .0)
 

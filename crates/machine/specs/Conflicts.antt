@@ -4,6 +4,7 @@ use mathlib.Core.Bool.{Bool, false, cond, not, _&&_, _||_}
 use mathlib.Core.Option.{Option, none, some}
 use lib.Dec.{eqb}
 use Rattle.rules.specs.Frame.{announcement}
+use Rattle.rules.specs.declared.Ipv4Address.{Ipv4Address}
 use Rattle.rules.specs.declared.HardwareAddress.{HardwareAddress}
 use Rattle.rules.specs.declared.Time.{Time}
 use Rattle.rules.specs.declared.Moment.{Moment}
@@ -22,18 +23,18 @@ use Rattle.machine.specs.Interface.{isOurs}
 
 -- What a packet says of an address: that it comes from there; or, "operation 1, sender IP zero, target IP its address", that
 -- its sender probes for it.
-abbrev pub isFrom : Frame → ℕ → Bool
-isFrom f address = eqb (f .sender .ip .0) address
+abbrev pub isFrom : Frame → Ipv4Address → Bool
+isFrom f address = eqb (f .sender .ip .0) (address .0)
 
-abbrev pub probesFor : Frame → ℕ → Bool
-probesFor f address = eqb (f .operation) 1 && eqb (f .sender .ip .0) 0 && eqb (f .target .ip .0) address
+abbrev pub probesFor : Frame → Ipv4Address → Bool
+probesFor f address = eqb (f .operation) 1 && eqb (f .sender .ip .0) 0 && eqb (f .target .ip .0) (address .0)
 
 -- "It's a conflict if
 -- - the record is probing and the sender IP is its address, whatever the sender hardware or operation; or
 -- - it's probing, operation 1, sender IP zero, target IP its address, sender hardware not ours; or
 -- - it's usable, sender IP its address, sender hardware not ours."
 -- "A deadline that has passed without a tick changes nothing here: the stage decides."
-abbrev pub isConflictAt : HardwareAddress → Frame → ℕ → Stage → Bool
+abbrev pub isConflictAt : HardwareAddress → Frame → Ipv4Address → Stage → Bool
 isConflictAt own f address Free = false
 isConflictAt own f address (Probing sent deadline) =
     isFrom f address || (probesFor f address && not (isOurs own (f .sender .hardware)))
@@ -41,13 +42,13 @@ isConflictAt own f address (Announced deadline conflict) = isFrom f address && n
 isConflictAt own f address (Settled conflict) = isFrom f address && not (isOurs own (f .sender .hardware))
 
 abbrev pub isConflict : HardwareAddress → Frame → Record → Bool
-isConflict own f r = isConflictAt own f (r .address .0) (r .stage)
+isConflict own f r = isConflictAt own f (r .address) (r .stage)
 
 -- "A conflict adds one to the count unless it is 10."
 abbrev pub countUp : ℕ → ℕ
 countUp count = cond (eqb count (rfc5227 .maxConflicts)) count (suc count)
 
--- "A usable one goes by policy: 1, lost; 2, defend if no conflict was seen before in this use or the last seen was 10,000 ms
+-- "A usable one goes by policy (section 2.4): 1, lost; 2, defend if no conflict was seen before in this use or the last seen was 10,000 ms
 -- ago or more, else lost; 3, the same but 'kept' without a frame in place of lost."
 abbrev pub byPolicy : ℕ → Time → Moment → Response
 byPolicy policy now last =

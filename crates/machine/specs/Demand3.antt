@@ -94,8 +94,8 @@ abbrev pub IsAfter : ℕ → List ℕ → ℕ → Type 0
 IsAfter ms [] time = Unit {0}
 IsAfter ms (latest ∷ earlier) time = latest + ms ≤ time
 
--- "Three probes, each at least 1,000 ms after the one before, then an announcement at least 2,000 ms after the third, with no
--- conflict over it between that ask and that announcement, and since the ask no drop or surrender of it."
+-- A claim that went through: three probes, each at least 1,000 ms after the one before, then an announcement at least 2,000 ms
+-- after the third, with no conflict over it between that ask and that announcement, and since the ask no drop or surrender of it.
 pub record WentThrough (c : Claim) : Type 0 where
   pub since : List Mark
   pub announcedAt : Time
@@ -108,7 +108,7 @@ pub record WentThrough (c : Claim) : Type 0 where
   -- Open: with no conflict before use, this says that there was no drop and no surrender.
   pub notGivenUp : isOpen c ≡ true
 
--- The latest accepted ask on an address, if there was one, went through.
+-- There was an accepted ask on the address, and the latest one went through.
 abbrev pub LatestWentThrough : Option Claim → Type 0
 LatestWentThrough none = ⊥
 LatestWentThrough (some c) = WentThrough c
@@ -126,11 +126,11 @@ countFrom a b (time ∷ earlier) = cond (leb a time && leb time b) 1 0 + countFr
 abbrev pub AtMostOneEach : ℕ → List ℕ → Type 0
 AtMostOneEach ms times = (a b : ℕ) → a ≤ b → countFrom a b times ≤ (b - a) / ms + 1
 
--- "An accepted ask sends at most 3 probes and 2 claiming announcements."
+-- An accepted ask sends at most 3 probes and 2 claiming announcements.
 abbrev pub SendsFew : Claim → Type 0
 SendsFew c = (length (timesOf aProbe (c .marks)) ≤ rfc5227 .probeNum) × (length (timesOf anAnnouncement (c .marks)) ≤ rfc5227 .announceNum)
 
--- "From any a to any b not before it, ends included, it sends at most (b - a) / 10,000 rounded down, plus 1, defences."
+-- From any a to any b not before it, ends included, it sends at most (b - a) / 10,000 rounded down, plus 1, defences.
 abbrev pub DefendsSeldom : Claim → Type 0
 DefendsSeldom c = AtMostOneEach (rfc5227 .defendInterval) (timesOf aDefence (c .marks))
 
@@ -158,9 +158,9 @@ pub record Demand3 (own : HardwareAddress) (start : Interface) (steps : List Ste
       (isUsable address (stateAfter start steps) ≡ true) ↔ LatestWentThrough (latestOn address (claimsOf own (events steps)))
   -- (c) At most 3 probes and 2 claiming announcements an ask.
   pub fewFrames : Each SendsFew (claimsOf own (events steps))
-  -- (d) At most one defence each 10,000 ms.
+  -- (d) From a to b at most (b - a) / 10,000 rounded down, plus 1, defences an ask.
   pub fewDefences : Each DefendsSeldom (claimsOf own (events steps))
-  -- (e) After the tenth conflict at most one ask each 60,000 ms.
+  -- (e) After the tenth conflict, from a to b at most (b - a) / 60,000 rounded down, plus 1, asks.
   pub fewAsks : AtMostOneEach (rfc5227 .rateLimitInterval) (asksAfterTenth own (events steps))
   -- (f) Refused calls count for nothing.
   pub refusedCountForNothing : CountForNothing own start steps (acceptedOnly steps)

@@ -1,4 +1,4 @@
--- Document 01's rules as definitions, in its order.
+-- Document 01's rules as definitions: interface, calls, refusals, then the histories of demand 3.
 pub mod Timing
 pub mod Slots
 pub mod Interface

@@ -47,8 +47,8 @@ abbrev pub acceptedAs : Outcome → Accepted
 acceptedAs outcome =
     record { kind = outcome .kind; slot = outcome .slot; next = smallestDeadline (outcome .state .records) }
 
--- "Compared at each call are the refusal number or the whole answer, the new state and every lent byte." "A refusal returns its
--- number alone, and the state and each lent byte remain what they were, latest time included." "A refused fresh makes no state":
+-- "Compared with it at each call are the refusal number or the whole answer, the new state and every lent byte." "A refusal
+-- returns its number alone [..], and the state and each lent byte remain what they were, latest time included." "A refused fresh makes no state":
 -- the one handed in comes back. A packet's bytes are lent for reading only, so no result speaks of them.
 pub record Result : Type 0 where
   pub report : Report Accepted

@@ -1,5 +1,5 @@
--- Slots: lists of records, the first being slot 0. That there are "four slots numbered 0 to 3" is said by the type of an
--- interface's records; these definitions are total over any list.
+-- Slots: lists of records, the first being slot 0. That there are "four slots numbered 0 to 3" is said by the program's type of
+-- an interface's records, `[Record; 4]`; these definitions are total over any list.
 use Prim.Native.Nat.{ℕ, suc}
 use mathlib.Core.Bool.{Bool, true, false, cond, _&&_, _||_}
 use mathlib.Core.List.{List, [], _∷_}
