@@ -9,7 +9,8 @@ use Rattle.machine.specs.Conflicts.{response}
 use Rattle.machine.specs.Calls.{service, freshOutcome, askOutcome, tickOutcome, packetOutcome}
 use Rattle.machine.specs.Refusals.{stateAndTime, freshRefusal, askRefusal, tickRefusal, packetRefusal}
 use Rattle.machine.specs.Machine.{refusalOf, outcomeOf, resultOf}
-use Rattle.machine.specs.Bench.{answers, BenchCases, lines, WholeCase}
+use Rattle.machine.specs.Claims.{timesOf, markedLatest, claimsAfter, claimsOf}
+use Rattle.machine.specs.Bench.{answers, BenchCases, lines, WholeCase, seenOf, WholeClaim}
 
 pub bench-cases : BenchCases
 unfolding
@@ -24,3 +25,10 @@ unfolding
     smallestDeadline dueSlot service freshOutcome askOutcome tickOutcome stateAndTime freshRefusal askRefusal tickRefusal
     refusalOf outcomeOf resultOf lines
 whole-case = refl
+
+pub whole-claim : WholeClaim
+unfolding
+    frameBytes probe announcement frameOf framePut any all lowestFrom isOwnHardware isAllowed isSoundStage isSoundRecord
+    holdsNoneTwice isSound smallestDeadline dueSlot service freshOutcome askOutcome tickOutcome stateAndTime freshRefusal askRefusal
+    tickRefusal refusalOf outcomeOf resultOf seenOf timesOf markedLatest claimsAfter claimsOf
+whole-claim = record { oneClaim = refl; allProbes = refl; allAnnouncements = refl }

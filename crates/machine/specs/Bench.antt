@@ -1,10 +1,10 @@
--- Document 01, "Bench cases": W1 to W12, one table under one claim; and the whole case of "Replay lines".
+-- Document 01, "Bench cases": W1 to W12, one table under one claim; and the whole case of "Replay lines", from inside and outside.
 use Prim.Native.Nat.{ℕ}
 use mathlib.Core.Path.{_≡_}
 use mathlib.Core.List.{List, [], _∷_, map}
 use mathlib.Core.Option.{Option, none, some}
 use lib.IntN.{ℤ, pos, negsuc}
-use lib.ListN.{replicate}
+use lib.ListN.{length, replicate}
 use Rattle.rules.specs.Answers.{Report, refused, accepted, Accepted}
 use Rattle.rules.specs.Frame.{frameBytes, probe, announcement}
 use Rattle.rules.specs.Clock.{ClockReport, clockOf}
@@ -18,10 +18,11 @@ use Rattle.rules.specs.declared.Stage.the-variants.{Probing, Settled}
 use Rattle.rules.specs.declared.Interface.{Interface}
 use Rattle.rules.specs.declared.Kind.{Kind}
 use Rattle.rules.specs.declared.Kind.the-variants.{Fresh, Taken, Nothing, Probe, Announce, Defend, Lost, Kept}
-use Rattle.machine.specs.Timing.{wait}
+use Rattle.machine.specs.Timing.{rfc5227, wait}
 use Rattle.machine.specs.Slots.{freeRecord}
 use Rattle.machine.specs.Calls.{Call, fresh, ask, tick, packet}
 use Rattle.machine.specs.Machine.{resultOf}
+use Rattle.machine.specs.Claims.{Event, mark, aProbe, anAnnouncement, timesOf, Claim, claimsOf}
 
 -- What a case looks at: a wait, the clock's step with the time or the refusal, the kind of an answer, or a refusal.
 pub data Seen : Type 0 where
@@ -166,9 +167,8 @@ zeros =
 abbrev pub blank : List ℕ
 blank = replicate 28 0
 
-abbrev pub WholeCase : Type 0
-WholeCase =
-    lines zeros (
+abbrev pub wholeCase : List Call
+wholeCase =
     fresh ours
     ∷ ask (at 100) ipv4 2 500
     ∷ tick (at 599) 0 blank
@@ -177,7 +177,11 @@ WholeCase =
     ∷ tick (at 3_600) 5 blank
     ∷ tick (at 5_600) 0 blank
     ∷ tick (at 7_600) 0 blank
-    ∷ [])
+    ∷ []
+
+abbrev pub WholeCase : Type 0
+WholeCase =
+    lines zeros wholeCase
     ≡ line Fresh none none []
     ∷ line Taken (some 0) (some 600) []
     ∷ line Nothing none (some 600) blank
@@ -187,3 +191,30 @@ WholeCase =
     ∷ line Announce (some 0) (some 7_600) (frameBytes (announcement ours ipv4))
     ∷ line Announce (some 0) none (frameBytes (announcement ours ipv4))
     ∷ []
+
+-- And what is seen of it from outside: one claim, with PROBE_NUM probes and ANNOUNCE_NUM announcements.
+unfoldable pub seenOf : Interface → List Call → List Event → List Event
+seenOf s [] earlier = earlier
+seenOf s (call ∷ later) earlier =
+    seenOf (resultOf s call .state) later
+    (record { call = call; report = resultOf s call .report; out = resultOf s call .out } ∷ earlier)
+
+abbrev pub wholeClaim : Claim
+wholeClaim =
+    record {
+      address = ipv4;
+      policy = 2;
+      slot = some 0;
+      marks =
+          mark anAnnouncement (at 7_600)
+          ∷ mark anAnnouncement (at 5_600)
+          ∷ mark aProbe (at 3_600)
+          ∷ mark aProbe (at 1_600)
+          ∷ mark aProbe (at 600)
+          ∷ [];
+    }
+
+pub record WholeClaim : Type 0 where
+  pub oneClaim : claimsOf ours (seenOf zeros wholeCase []) ≡ wholeClaim ∷ []
+  pub allProbes : length (timesOf aProbe (wholeClaim .marks)) ≡ rfc5227 .probeNum
+  pub allAnnouncements : length (timesOf anAnnouncement (wholeClaim .marks)) ≡ rfc5227 .announceNum

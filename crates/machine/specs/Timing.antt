@@ -6,8 +6,8 @@ use Rattle.rules.specs.declared.Time.{Time}
 use Rattle.rules.specs.declared.Moment.{Moment}
 use Rattle.rules.specs.declared.Moment.the-variants.{Never, At}
 
--- "Section 1.1 of RFC 5227, in ms where they are times." The number of announcements is that of the stages after probing, announced
--- once and settled; demand 3 bounds by it.
+-- "Section 1.1 of RFC 5227, in ms where they are times." That two announcements are sent is said by the stages after probing,
+-- announced once and settled; demand 3 bounds by the number.
 pub record Timing : Type 0 where
   pub probeWait : ℕ
   pub probeNum : ℕ
