@@ -1,0 +1,89 @@
+-- The parts of a text, one after the other: the first is what stands before the first separator, and the others are those of
+-- what stands behind it.
+use Prim.Native.Nat.{ℕ, zero, suc, _<_, _≤_}
+use mathlib.Core.Path.{_≡_, refl, ap, sym, _∙_}
+use mathlib.Core.Bool.{Bool, true, false, cond}
+use mathlib.Core.List.{List, [], _∷_}
+use native.Mathlib.Omega.{arith}
+use lib.Dec.{eqb}
+use lib.ListN.{length, getD, take, drop}
+use Rattle.lines.specs.Fields.{before, parts, firstPart}
+
+-- There is always a first part.
+pub first-of-parts : (s : ℕ) (text : List ℕ) → parts s text ≡ firstPart s text ∷ drop 1 (parts s text)
+unfolding parts
+first-of-parts s [] = refl
+first-of-parts s (b ∷ text) = cases (eqb b s) (parts s text) (first-of-parts s text)
+  where
+    cases : (t : Bool) (ps : List (List ℕ))
+        → ps ≡ getD ps 0 [] ∷ drop 1 ps
+        → cond t ([] ∷ ps) (before b ps) ≡ getD (cond t ([] ∷ ps) (before b ps)) 0 [] ∷ drop 1 (cond t ([] ∷ ps) (before b ps))
+    cases true ps e = refl
+    cases false [] e = refl
+    cases false (p ∷ ps) e = refl
+
+-- A byte more in front: the separator itself, or a byte of the first part.
+pub first-separator : (s b : ℕ) (text : List ℕ) → eqb b s ≡ true → firstPart s (b ∷ text) ≡ []
+unfolding parts
+first-separator s b text e = ap (λ t. getD (cond t ([] ∷ parts s text) (before b (parts s text))) 0 []) e
+
+pub first-other : (s b : ℕ) (text : List ℕ) → eqb b s ≡ false → firstPart s (b ∷ text) ≡ b ∷ firstPart s text
+unfolding parts
+first-other s b text e =
+    ap (λ t. getD (cond t ([] ∷ parts s text) (before b (parts s text))) 0 []) e
+    ∙ ap (λ ps. getD (before b ps) 0 []) (first-of-parts s text)
+
+-- The first part is the text's beginning, up to a separator if there is one.
+pub first-length : (s : ℕ) (text : List ℕ) → length (firstPart s text) ≤ length text
+unfolding parts
+first-length s [] = omega arith
+first-length s (b ∷ text) = cases (eqb b s) refl (first-length s text)
+  where
+    cases : (t : Bool) → eqb b s ≡ t → length (firstPart s text) ≤ length text → length (firstPart s (b ∷ text)) ≤ suc (length text)
+    cases true e h = omega (arith, ap length (first-separator s b text e))
+    cases false e h = omega (arith, ap length (first-other s b text e), h)
+
+pub first-take : (s : ℕ) (text : List ℕ) → firstPart s text ≡ take (length (firstPart s text)) text
+unfolding parts
+first-take s [] = refl
+first-take s (b ∷ text) = cases (eqb b s) refl (first-take s text)
+  where
+    cases : (t : Bool) → eqb b s ≡ t → firstPart s text ≡ take (length (firstPart s text)) text
+        → firstPart s (b ∷ text) ≡ take (length (firstPart s (b ∷ text))) (b ∷ text)
+    cases true e h = first-separator s b text e ∙ ap (λ p. take (length p) (b ∷ text)) (sym (first-separator s b text e))
+    cases false e h =
+        first-other s b text e
+        ∙ ap (λ p. b ∷ p) h
+        ∙ ap (λ p. take (length p) (b ∷ text)) (sym (first-other s b text e))
+
+-- A text without a separator is one part; else the other parts are those behind the separator.
+pub one-part : (s : ℕ) (text : List ℕ) → length (firstPart s text) ≡ length text → parts s text ≡ text ∷ []
+unfolding parts
+one-part s [] whole = refl
+one-part s (b ∷ text) whole = cases (eqb b s) refl (one-part s text)
+  where
+    cases : (t : Bool) → eqb b s ≡ t
+        → (length (firstPart s text) ≡ length text → parts s text ≡ text ∷ [])
+        → parts s (b ∷ text) ≡ (b ∷ text) ∷ []
+    cases true e h = absurd (omega (arith, ap length (first-separator s b text e), whole))
+    cases false e h =
+        ap (λ t. cond t ([] ∷ parts s text) (before b (parts s text))) e
+        ∙ ap (before b) (h (omega (arith, ap length (first-other s b text e), whole)))
+
+pub more-parts : (s : ℕ) (text : List ℕ)
+    → length (firstPart s text) < length text
+    → parts s text ≡ firstPart s text ∷ parts s (drop (suc (length (firstPart s text))) text)
+unfolding parts
+more-parts s [] more = absurd (omega (arith, more))
+more-parts s (b ∷ text) more = cases (eqb b s) refl (more-parts s text)
+  where
+    cases : (t : Bool) → eqb b s ≡ t
+        → (length (firstPart s text) < length text → parts s text ≡ firstPart s text ∷ parts s (drop (suc (length (firstPart s text))) text))
+        → parts s (b ∷ text) ≡ firstPart s (b ∷ text) ∷ parts s (drop (suc (length (firstPart s (b ∷ text)))) (b ∷ text))
+    cases true e h =
+        ap (λ t. cond t ([] ∷ parts s text) (before b (parts s text))) e
+        ∙ ap (λ p. p ∷ parts s (drop (suc (length p)) (b ∷ text))) (sym (first-separator s b text e))
+    cases false e h =
+        ap (λ t. cond t ([] ∷ parts s text) (before b (parts s text))) e
+        ∙ ap (before b) (h (omega (arith, ap length (first-other s b text e), more)))
+        ∙ ap (λ p. p ∷ parts s (drop (suc (length p)) (b ∷ text))) (sym (first-other s b text e))
