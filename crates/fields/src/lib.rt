@@ -1,0 +1,19 @@
+// The splitter of a line's fields and of an address's parts, and the first word of a line.
+ghost use mathlib.Core.Path.{_≡_};
+ghost use Rattle.rules.specs.Bytes.{sameBytes};
+ghost use Rattle.lines.specs.Fields.{firstPart};
+
+// The part of a text up to its first separator, or all of it: "a field is handed on as a part of the caller's line".
+pub fn part(text: &[u8], separator: u8) -> &[u8]
+    ensures { λ r. ⌜ now r ≡ firstPart separator (now (text .entry)) ⌝ }
+{
+    let end = bytes::scan::find(text, 0, text.len(), separator);
+    &text[..end]
+}
+
+// Whether a field is this word.
+pub fn is_word(field: &[u8], word: &[u8]) -> bool
+    ensures { λ r. ⌜ r ≡ sameBytes (now (field .entry)) (now (word .entry)) ⌝ }
+{
+    check::same(field, word)
+}
