@@ -1,11 +1,12 @@
 -- `fields::part`: the text up to the index that is found.
 use borrow.Author.Needs.{needs}
+use native.Mathlib.Omega.{arith}
 use Rattle.fields.proofs.Laws.{found-part, found-length}
 use Rattle.fields.proofs.part.Statement.{statement}
 use Rattle.fields.proofs.part.Tie as tie
 
 slice-aggregate-result : tie.Need-slice-aggregate-result
-slice-aggregate-result c = search (found-length, needs)
+slice-aggregate-result c = found-length (c .before .find .result) (c .before .before .before .args .text .now) (omega arith)
 
 returns : tie.Need-returns
 returns c = search (found-part, needs)
