@@ -3,9 +3,10 @@
 use Prim.Native.Nat.{ℕ, zero, suc, _<_, _≤_}
 use mathlib.Core.Path.{_≡_, refl, ap, sym, _∙_}
 use mathlib.Core.Bool.{Bool, true, false, cond}
-use mathlib.Core.List.{List, [], _∷_}
+use mathlib.Core.List.{List, [], _∷_, _++_}
 use native.Mathlib.Omega.{arith}
 use lib.Dec.{eqb}
+use borrow.Author.Tests.{eqb-true}
 use lib.ListN.{length, getD, take, drop}
 use Rattle.lines.specs.Fields.{before, parts, firstPart}
 
@@ -87,3 +88,21 @@ more-parts s (b ∷ text) more = cases (eqb b s) refl (more-parts s text)
         ap (λ t. cond t ([] ∷ parts s text) (before b (parts s text))) e
         ∙ ap (before b) (h (omega (arith, ap length (first-other s b text e), more)))
         ∙ ap (λ p. p ∷ parts s (drop (suc (length p)) (b ∷ text))) (sym (first-other s b text e))
+
+-- Where it is shorter than the text, a separator follows.
+pub separated : (s : ℕ) (text : List ℕ)
+    → length (firstPart s text) < length text
+    → text ≡ firstPart s text ++ (s ∷ drop (suc (length (firstPart s text))) text)
+unfolding parts
+separated s [] more = absurd (omega (arith, more))
+separated s (b ∷ text) more = cases (eqb b s) refl (separated s text)
+  where
+    cases : (t : Bool) → eqb b s ≡ t
+        → (length (firstPart s text) < length text → text ≡ firstPart s text ++ (s ∷ drop (suc (length (firstPart s text))) text))
+        → b ∷ text ≡ firstPart s (b ∷ text) ++ (s ∷ drop (suc (length (firstPart s (b ∷ text)))) (b ∷ text))
+    cases true e h =
+        ap (λ x. x ∷ text) (eqb-true b s e)
+        ∙ ap (λ p. p ++ (s ∷ drop (suc (length p)) (b ∷ text))) (sym (first-separator s b text e))
+    cases false e h =
+        ap (λ p. b ∷ p) (h (omega (arith, ap length (first-other s b text e), more)))
+        ∙ ap (λ p. p ++ (s ∷ drop (suc (length p)) (b ∷ text))) (sym (first-other s b text e))
