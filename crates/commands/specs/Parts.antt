@@ -1,8 +1,9 @@
 -- What the functions here promise one another: a command as a call, and each form's call from its fields.
 use Prim.Native.Nat.{ℕ}
+use mathlib.Core.Path.{_≡_}
 use mathlib.Core.Bool.{cond}
 use mathlib.Core.List.{List, [], _∷_}
-use mathlib.Core.Option.{Option, none, some}
+use mathlib.Core.Option.{Option, none, some, Option·map}
 use lib.Dec.{eqb}
 use lib.ListN.{length, take}
 use Rattle.machine.specs.Calls as Calls
@@ -54,3 +55,10 @@ dropCall fields = time (field 1 fields) then λ t. number largest (field 2 field
 -- A form's call if there are so many fields.
 abbrev pub ifCount : ℕ → (List (List ℕ) → Option Call) → List (List ℕ) → Option Call
 ifCount count call fields = cond (eqb (length fields) count) (call fields) none
+
+-- A command makes this call, or none: with a packet's bytes at the start of a buffer, or whatever stands there.
+pub record Makes (command : Command) (head : List ℕ) (call : Option Call) : Type 0 where
+  pub makes : commandCall command head ≡ Option·map headed call
+
+pub record Always (command : Command) (call : Option Call) : Type 0 where
+  pub always : (head : List ℕ) → Makes command head call

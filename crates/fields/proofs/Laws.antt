@@ -1,12 +1,14 @@
--- A byte's index is the length of the part before it; bytes that are the same, as a test.
-use Prim.Native.Nat.{ℕ, suc, _+_, _≤_}
+-- A byte's index is the length of the part before it; bytes that are the same, as a test; what is behind a place.
+use Prim.Native.Nat.{ℕ, suc, _+_, _-_, _≤_}
 use mathlib.Core.Path.{_≡_, refl, ap, sym, subst, _∙_}
 use mathlib.Core.Bool.{Bool, true, false, _&&_, true≢false}
 use mathlib.Core.List.{List, [], _∷_}
 use native.Mathlib.Nat.{zero-add}
+use native.Mathlib.Numerals.{add-one}
+use native.Mathlib.Omega.{arith}
 use lib.Dec.{eqb}
-use lib.ListN.{length, take, drop}
-use lib.Seq.{take-length, length-take-le}
+use lib.ListN.{length, take, drop, length-drop, drop-of-length-le}
+use lib.Seq.{take-length, length-take-le, take-all, take-nil, drop-length}
 use borrow.Author.Tests.{eq-eqb}
 use Rattle.bytes.specs.Bytes.{slice, indexAfter, indexOf}
 use Rattle.rules.specs.Bytes.{sameBytes}
@@ -47,3 +49,15 @@ same-test xs ys false told = cases (sameBytes xs ys) refl
     cases : (t : Bool) → sameBytes xs ys ≡ t → false ≡ sameBytes xs ys
     cases true e = absurd (true≢false (sym (told .1 (same-equal xs ys e))))
     cases false e = sym e
+
+-- A part up to the end, as what is left behind a place.
+pub rest-behind : (place : ℕ) (text : List ℕ) → take (length text - (place + 1)) (drop (place + 1) text) ≡ drop (suc place) text
+rest-behind place text =
+    take-all (length text - (place + 1)) (drop (place + 1) text) (omega (arith, length-drop (place + 1) text)) ∙ ap (λ k. drop k text) (add-one place)
+
+pub nothing-behind : (place : ℕ) (text : List ℕ) → length text ≤ place
+    → take (length text - length text) (drop (length text) text) ≡ drop (suc place) text
+nothing-behind place text h =
+    ap (take (length text - length text)) (drop-length text)
+    ∙ take-nil (length text - length text)
+    ∙ sym (drop-of-length-le text {i = suc place} (omega (arith, h)))

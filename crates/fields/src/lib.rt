@@ -1,5 +1,7 @@
 // The splitter of a line's fields and of an address's parts, and the first word of a line.
+ghost use Prim.Native.Nat.{suc};
 ghost use mathlib.Core.Path.{_≡_};
+ghost use lib.ListN.{drop};
 ghost use Rattle.rules.specs.Bytes.{sameBytes};
 ghost use Rattle.lines.specs.Fields.{firstPart};
 
@@ -16,4 +18,15 @@ pub fn is_word(field: &[u8], word: &[u8]) -> bool
     ensures { λ r. ⌜ r ≡ sameBytes (now (field .entry)) (now (word .entry)) ⌝ }
 {
     check::same(field, word)
+}
+
+// What stands behind a place of a text: nothing behind its last byte.
+pub fn behind(text: &[u8], place: usize) -> &[u8]
+    ensures { λ r. ⌜ now r ≡ drop (suc place) (now (text .entry)) ⌝ }
+{
+    if place < text.len() {
+        &text[place + 1..]
+    } else {
+        &text[text.len()..]
+    }
 }

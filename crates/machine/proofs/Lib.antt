@@ -13,6 +13,7 @@ pub mod AskStep
 pub mod DropStep
 pub mod TickStep
 pub mod PacketStep
+pub mod PacketHead
 pub mod Demand3
 pub mod AlwaysSound
 pub mod Bench

@@ -172,7 +172,7 @@ module _ (bytes rest : List ℕ) (long : 28 ≤ length bytes) where
   field-ignores : (i n : ℕ) → i + n ≤ 28 → numberAt i n (bytes ++ rest) ≡ numberAt i n bytes
   field-ignores i n h = ap numberOf (part-append n i bytes rest (omega arith))
 
-  frame-ignores : frameOf (bytes ++ rest) ≡ frameOf bytes
+  pub frame-ignores : frameOf (bytes ++ rest) ≡ frameOf bytes
   unfolding frameOf
   frame-ignores =
       rw (
@@ -187,15 +187,18 @@ module _ (bytes rest : List ℕ) (long : 28 ≤ length bytes) where
   unfolding isKnownFrame
   known-ignores = rw (part-append 6 0 bytes rest (omega arith), field-ignores 6 2 (omega arith))
 
-  pub read-ignores-rest : readOf (bytes ++ rest) ≡ readOf bytes
-  unfolding readOf readRefusal
-  read-ignores-rest =
+  pub refusal-ignores : readRefusal (bytes ++ rest) ≡ readRefusal bytes
+  unfolding readRefusal
+  refusal-ignores =
       rw (
-        frame-ignores,
         known-ignores,
         le-ltb (length bytes) 28 long,
         le-ltb (length (bytes ++ rest)) 28 (rw length-append (omega arith)),
       )
+
+  pub read-ignores-rest : readOf (bytes ++ rest) ≡ readOf bytes
+  unfolding readOf
+  read-ignores-rest = rw (refusal-ignores, frame-ignores)
 
 -- The first 28 bytes, cut where the fields begin.
 abbrev pieces : List ℕ → List ℕ

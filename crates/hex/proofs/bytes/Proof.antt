@@ -1,0 +1,23 @@
+-- `hex::bytes`: too many digits, an odd count, bytes, a byte that is no digit.
+use borrow.Author.Needs.{needs}
+use Rattle.hex.proofs.Laws.{bytes-long, bytes-odd, bytes-read, bytes-foreign}
+use Rattle.hex.proofs.bytes.Statement.{statement}
+use Rattle.hex.proofs.bytes.Tie as tie
+
+read-head-requires : tie.Need-read-head-requires
+read-head-requires c κs = search needs
+
+returns : tie.Need-returns
+returns c = search (bytes-long, needs)
+
+returns-2 : tie.Need-returns-2
+returns-2 c = search (bytes-odd, needs)
+
+returns-3 : tie.Need-returns-3
+returns-3 c = search (bytes-read, needs)
+
+returns-4 : tie.Need-returns-4
+returns-4 c = search bytes-foreign
+
+pub bytes-spec : {M : Type 1} → statement M
+bytes-spec = tie.close (tie.spec (λ c κs. search needs) read-head-requires returns returns-2 returns-3 returns-4)

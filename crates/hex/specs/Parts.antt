@@ -1,0 +1,43 @@
+-- What the answers of src/ stand for, and what its inner functions promise one another: whether all of a text is hex, and its bytes
+-- if it is. What is hex says the crate lines.
+use Prim.Native.Nat.{ℕ, _+_, _*_}
+use mathlib.Core.Bool.{Bool, true, _&&_, _||_}
+use mathlib.Core.List.{List, [], _∷_}
+use mathlib.Core.Option.{Option, none, some, Option·getD}
+use lib.Dec.{leb}
+use lib.ListN.{take}
+use Rattle.rules.specs.declared.HardwareAddress.{HardwareAddress}
+use Rattle.lines.specs.Numbers.{isDigit, hexDigit}
+use Rattle.hex.specs.declared.HardwareReading.{HardwareReading}
+use Rattle.hex.specs.declared.HardwareReading.the-variants as hardware
+use Rattle.hex.specs.declared.BytesReading.{BytesReading}
+use Rattle.hex.specs.declared.BytesReading.the-variants as bytes
+
+abbrev pub hardwareOf : HardwareReading → Option HardwareAddress
+hardwareOf hardware.Malformed = none
+hardwareOf (hardware.Hardware h) = some h
+
+-- The bytes stand at the start of the head that was lent for them.
+abbrev pub headOf : BytesReading → List ℕ → Option (List ℕ)
+headOf bytes.Malformed head = none
+headOf (bytes.Bytes n) head = some (take n head)
+
+abbrev pub isLetter : ℕ → Bool
+isLetter b = leb 97 b && leb b 102
+
+abbrev pub isHex : ℕ → Bool
+isHex b = isDigit b || isLetter b
+
+unfoldable pub areHex : List ℕ → Bool
+areHex [] = true
+areHex (b ∷ text) = isHex b && areHex text
+
+-- A digit's value, and 0 for any other byte.
+unfoldable pub valueOf : ℕ → ℕ
+valueOf b = Option·getD (hexDigit b) 0
+
+-- The bytes of a text, two digits each. Proved to be those of `hexBytes` where there are any: `scanned` in proofs/HexScan.antt.
+unfoldable pub pairs : List ℕ → List ℕ
+pairs [] = []
+pairs (high ∷ []) = []
+pairs (high ∷ low ∷ text) = (valueOf high * 16 + valueOf low) ∷ pairs text

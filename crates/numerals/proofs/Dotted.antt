@@ -1,0 +1,204 @@
+-- The numbers of an address read one after the other: a law for each way that `address` goes on or ends.
+use Prim.Native.Nat.{ℕ, suc, _+_, _-_, _*_, _^_, _<_, _≤_}
+use mathlib.Core.Path.{_≡_, refl, ap, ap₂, sym, _∙_}
+use mathlib.Core.Bool.{Bool, true, false, not, _&&_, _||_}
+use mathlib.Core.List.{List, [], _∷_}
+use mathlib.Core.Option.{Option, none, some}
+use native.Mathlib.Nat.{lt-of-lt-of-le, pow-succ', mul-comm, pow-le-pow-right, mul-assoc, add-mul, add-assoc, zero-add, zero-mul, mul-one, add-zero}
+use native.Mathlib.Numerals.{add-one}
+use native.Mathlib.Omega.{arith}
+use mir.Syntax.{w32, w64}
+use mir.Val.{Fits}
+use lib.Dec.{eqb, leb, ltb}
+use lib.ListN.{length, take, drop, length-drop}
+use lib.Seq.{take-all, drop-drop}
+use lib.Arith.{digits-lt}
+use borrow.Author.Tests.{ne-eqb, leb-true, ltb-true, ltb-false}
+use Rattle.rules.specs.Bytes.{numberOf}
+use Rattle.rules.specs.declared.Ipv4Address.{Ipv4Address}
+use Rattle.rules.proofs.BytesLaws.{and-both}
+use Rattle.lines.specs.Fields.{dot, parts, firstPart, only, _then_}
+use Rattle.lines.specs.Numbers.{isDigit, areDigits, isEmpty, isNumeral, valueAfter, number, each, address}
+use Rattle.lines.proofs.FieldLaws.{first-of-parts, first-length, one-part, more-parts}
+use Rattle.numerals.specs.Parts.{readingOf, completed, addressAfter}
+use Rattle.numerals.specs.declared.Reading.{Reading}
+use Rattle.numerals.specs.declared.Reading.the-variants.{Malformed, Number}
+use Rattle.numerals.proofs.Scan.{digit-range}
+
+-- Before the first number.
+pub begins : (text : List ℕ) → address text ≡ addressAfter 0 0 (parts dot text)
+unfolding address addressAfter
+begins text = go (each (number 255) (parts dot text))
+  where
+    go : (read : Option (List ℕ))
+        → (read then λ bytes. only {A = Ipv4Address} (eqb (length bytes) 4) (record { 0 = numberOf bytes })) ≡ (read then completed 0 0)
+    go none = refl
+    go (some bytes) = simp (zero-mul, zero-add)
+
+-- A number more.
+module _ (count value : ℕ) (text : List ℕ) (texts : List (List ℕ)) where
+  refused : number 255 text ≡ none → addressAfter count value (text ∷ texts) ≡ none
+  unfolding addressAfter each
+  refused e = rw e
+
+  taken : (n : ℕ) → number 255 text ≡ some n → addressAfter count value (text ∷ texts) ≡ addressAfter (count + 1) (value * 256 + n) texts
+  unfolding addressAfter each
+  taken n e = rw e (go (each (number 255) texts))
+    where
+      go : (read : Option (List ℕ))
+          → ((read then λ ns. some (n ∷ ns)) then completed count value) ≡ (read then completed (count + 1) (value * 256 + n))
+      go none = refl
+      go (some bytes) =
+          let so-many : count + suc (length bytes) ≡ count + 1 + length bytes = omega arith in
+          let worth : value * 256 ^ suc (length bytes) + numberOf (n ∷ bytes) ≡ (value * 256 + n) * 256 ^ length bytes + numberOf bytes
+          = simp (pow-succ', add-mul, mul-assoc, add-assoc) in
+          ap₂ (λ a b. only (eqb a 4) (record { 0 = b })) so-many worth
+
+-- Texts that are not four in all make no address; four numbers do.
+not-four : (count value : ℕ) (texts : List (List ℕ)) → (count + length texts ≡ 4 → ⊥) → addressAfter count value texts ≡ none
+unfolding addressAfter each
+not-four count value [] h = rw (ne-eqb (count + 0) 4 h)
+not-four count value (text ∷ texts) h = go (number 255 text) refl (λ v k. not-four (count + 1) v texts k)
+  where
+    go : (read : Option ℕ) → number 255 text ≡ read
+        → ((v : ℕ) → (count + 1 + length texts ≡ 4 → ⊥) → addressAfter (count + 1) v texts ≡ none)
+        → addressAfter count value (text ∷ texts) ≡ none
+    go none e rest = refused count value text texts e
+    go (some n) e rest = taken count value text texts n e ∙ rest (value * 256 + n) (λ k. h (omega (arith, k)))
+
+four : (value : ℕ) → addressAfter 4 value [] ≡ some (record { 0 = value })
+unfolding addressAfter each
+four value = simp (mul-one, add-zero)
+
+-- A number read: its text is digits, no dot among them, and it is not above the most allowed.
+only-some : {A : Type 0} (t : Bool) (a b : A) → only t a ≡ some b → (t ≡ true) × (a ≡ b)
+only-some true a b e = (refl, cc)
+only-some false a b e = (cc, cc)
+
+numeral-digits : (text : List ℕ) → isNumeral text ≡ true → areDigits text ≡ true
+numeral-digits [] e = cc
+numeral-digits (b ∷ text) e = and-both (areDigits (b ∷ text)) (isEmpty text || not (eqb b 48)) e .0
+
+module _ (most n : ℕ) (text : List ℕ) (read : number most text ≡ some n) where
+  form : (isNumeral text && leb (valueAfter 0 text) most ≡ true) × (valueAfter 0 text ≡ n)
+  unfolding number
+  form = only-some (isNumeral text && leb (valueAfter 0 text) most) (valueAfter 0 text) n read
+
+  number-digits : areDigits text ≡ true
+  number-digits = numeral-digits text (and-both (isNumeral text) (leb (valueAfter 0 text) most) (form .0) .0)
+
+  number-most : n ≤ most
+  number-most =
+      omega (arith, leb-true (valueAfter 0 text) most (and-both (isNumeral text) (leb (valueAfter 0 text) most) (form .0) .1), form .1)
+
+digits-one-part : (text : List ℕ) → areDigits text ≡ true → parts dot text ≡ text ∷ []
+unfolding areDigits parts
+digits-one-part [] e = refl
+digits-one-part (b ∷ text) e =
+    let both = and-both (isDigit b) (areDigits text) e in
+    rw (ne-eqb b dot (omega (arith, digit-range b (both .0))), digits-one-part text (both .1))
+
+-- The rest of a text as the code lends it.
+pub to-end : (start : ℕ) (text : List ℕ) → take (length text - start) (drop start text) ≡ drop start text
+to-end start text = take-all (length text - start) (drop start text) (rw length-drop (omega arith))
+
+-- `rest` is what is not read yet, and `first` the text of the next number; behind its dot is the next start.
+module _ (text : List ℕ) (start : ℕ) (within : start ≤ length text) (rest : List ℕ) (behind : rest ≡ drop start text) where
+  module _ (first : List ℕ) (part : first ≡ firstPart dot rest) (more : length first ≡ length rest → ⊥) where
+    pub next-within : start + (length first + 1) ≤ length text
+    next-within = omega (arith, first-length dot rest, ap length part, ap length behind, length-drop start text)
+
+    pub next-fits : length text < 2 ^ 64 → Fits w64 (start + (length first + 1))
+    next-fits h = record { fits = omega (arith, next-within) }
+
+    pub step-fits : length text < 2 ^ 64 → Fits w64 (length first + 1)
+    step-fits h = record { fits = omega (arith, next-within) }
+
+pub ruleset next-start = (to-end, next-within, next-fits, step-fits)
+
+-- The loop: `count` numbers stand before `start`, and make the value.
+module _ (text : List ℕ) (count value start : ℕ) (rest : List ℕ) (behind : rest ≡ drop start text)
+    (told : address text ≡ addressAfter count value (parts dot (drop start text))) where
+  left : address text ≡ addressAfter count value (parts dot rest)
+  left = told ∙ ap (λ t. addressAfter count value (parts dot t)) (sym behind)
+
+  -- Before the last number.
+  module _ (first : List ℕ) (part : first ≡ firstPart dot rest) where
+    pub part-last : length first ≡ length rest → count < 3 → none ≡ address text
+    part-last e h =
+        sym
+        (left
+        ∙ ap (addressAfter count value) (one-part dot rest (sym (ap length part) ∙ e))
+        ∙ not-four count value (rest ∷ []) (λ k. omega (arith, k)))
+
+    module _ (reading : Reading) (read : readingOf reading ≡ number 255 first) where
+      first-read : (r : Option ℕ) → readingOf reading ≡ r → number 255 (firstPart dot rest) ≡ r
+      first-read r e = sym (ap (number 255) part) ∙ sym read ∙ e
+
+      pub part-malformed : reading ≡ Malformed → none ≡ address text
+      part-malformed e =
+          sym
+          (left
+          ∙ ap (addressAfter count value) (first-of-parts dot rest)
+          ∙ refused count value (firstPart dot rest) (drop 1 (parts dot rest)) (first-read none (ap readingOf e)))
+
+      pub part-number : (n : ℕ) → reading ≡ Number n → (new : ℕ) → new ≡ value * 256 + n → (length first ≡ length rest → ⊥)
+          → address text ≡ addressAfter (count + 1) new (parts dot (drop (start + (length first + 1)) text))
+      part-number n e new made more =
+          left
+          ∙ ap (addressAfter count value)
+          (more-parts dot rest (omega (arith, first-length dot rest, ap length part, more)))
+          ∙ taken count value (firstPart dot rest) (parts dot (drop (suc (length (firstPart dot rest))) rest)) n
+          (first-read (some n) (ap readingOf e))
+          ∙ ap₂ (λ v t. addressAfter (count + 1) v (parts dot t)) (sym made) place
+        where
+          place : drop (suc (length (firstPart dot rest))) rest ≡ drop (start + (length first + 1)) text
+          place = rw (← part, behind, drop-drop, add-one)
+
+  -- The last number.
+  module _ (last : 3 ≤ count) (within : count ≤ 3) (reading : Reading) (read : readingOf reading ≡ number 255 rest) where
+    pub last-malformed : reading ≡ Malformed → none ≡ address text
+    last-malformed e = sym (left ∙ go (ltb (length (firstPart dot rest)) (length rest)) refl)
+      where
+        go : (more : Bool) → ltb (length (firstPart dot rest)) (length rest) ≡ more → addressAfter count value (parts dot rest) ≡ none
+        go true k =
+            let after : List ℕ = drop (suc (length (firstPart dot rest))) rest in
+            ap (addressAfter count value)
+            (more-parts dot rest (ltb-true (length (firstPart dot rest)) (length rest) k)
+            ∙ ap (λ l. firstPart dot rest ∷ l) (first-of-parts dot after))
+            ∙ not-four count value (firstPart dot rest ∷ firstPart dot after ∷ drop 1 (parts dot after)) (λ l. omega (arith, l))
+        go false k =
+            ap (addressAfter count value)
+            (one-part dot rest (omega (arith, first-length dot rest, ltb-false (length (firstPart dot rest)) (length rest) k)))
+            ∙ refused count value rest [] (sym read ∙ ap readingOf e)
+
+    pub last-number : (n : ℕ) → reading ≡ Number n → (new : ℕ) → new ≡ value * 256 + n → some (record { 0 = new }) ≡ address text
+    last-number n e new made =
+        let is : number 255 rest ≡ some n = sym read ∙ ap readingOf e in
+        let all : count + 1 ≡ 4 = omega arith in
+        sym
+        (left
+        ∙ ap (addressAfter count value) (digits-one-part rest (number-digits 255 n rest is))
+        ∙ taken count value rest [] n is
+        ∙ ap₂ (λ k v. addressAfter k v []) all (sym made)
+        ∙ four new)
+
+-- The value stays within 32 bits: `new` is the one with a byte more.
+module _ (count value : ℕ) (three : count ≤ 3) (small : value < 256 ^ count) where
+  pub value-bound : value < 16_777_216
+  value-bound = lt-of-lt-of-le small (pow-le-pow-right {n = 256} (omega arith) three)
+
+  module _ (text : List ℕ) (reading : Reading) (read : readingOf reading ≡ number 255 text) (n : ℕ) (is : reading ≡ Number n) where
+    pub byte-bound : n < 256
+    byte-bound = omega (arith, number-most 255 n text (sym read ∙ ap readingOf is))
+
+    module _ (new : ℕ) (made : new ≡ value * 256 + n) where
+      pub new-fits : Fits w32 new
+      new-fits = record { fits = omega (arith, value-bound, byte-bound) }
+
+      pub new-small : new < 256 ^ (count + 1)
+      new-small = rw (made, add-one, pow-succ', mul-comm 256 (256 ^ count)) (digits-lt small byte-bound)
+
+pub ruleset address-ends = (to-end, part-last, part-malformed, part-number, last-malformed, last-number)
+
+pub ruleset value-fits = (value-bound, byte-bound, new-fits, new-small)

@@ -1,0 +1,134 @@
+-- Digits read one after the other: a law for each way that a function of src/ goes on or ends.
+use Prim.Native.Nat.{ℕ, suc, _+_, _-_, _*_, _<_, _≤_}
+use mathlib.Core.Path.{_≡_, refl, sym, _∙_}
+use mathlib.Core.Bool.{Bool, true, false, not, _&&_, _||_, and-true, and-false}
+use mathlib.Core.List.{List, [], _∷_}
+use mathlib.Core.Option.{Option, none, some}
+use native.Mathlib.Numerals.{add-one}
+use native.Mathlib.Omega.{arith}
+use mir.Syntax.{w64}
+use mir.Val.{Fits}
+use lib.Dec.{eqb, leb, ltb}
+use lib.ListN.{length, getD, drop, drop-of-length-le}
+use lib.Seq.{drop-cons}
+use borrow.Author.Tests.{le-leb, lt-leb, leb-false, leb-true, ltb-true, ltb-false, ne-eqb, eqb-true, eqb-false, not-true, not-false}
+use Rattle.rules.proofs.BytesLaws.{and-both}
+use Rattle.lines.specs.Fields.{only}
+use Rattle.lines.specs.Numbers.{isDigit, areDigits, isNumeral, valueAfter, number, largest}
+use Rattle.numerals.specs.Parts.{appended, isNextDigit, numberAfter, hasNumeralStart}
+
+-- Digits only add to a value.
+grows : (n : ℕ) (text : List ℕ) → n ≤ valueAfter n text
+unfolding valueAfter
+grows n [] = omega arith
+grows n (b ∷ text) = omega (arith, grows (10 * n + (b - 48)) text)
+
+-- The test of a digit as the code makes it: a value below, at or above a tenth of 2^64 - 1.
+abbrev tenth : ℕ
+tenth = 1_844_674_407_370_955_161
+
+pub digit-range : (b : ℕ) → isDigit b ≡ true → (48 ≤ b) × (b ≤ 57)
+digit-range b e = let both = and-both (leb 48 b) (leb b 57) e in (leb-true 48 b (both .0), leb-true b 57 (both .1))
+
+pub next-digit : (value b : ℕ) → (isDigit b && (ltb value tenth || (eqb value tenth && leb b 53))) ≡ isNextDigit value b
+next-digit value b = digit (isDigit b) refl
+  where
+    room : (below : Bool) → ltb value tenth ≡ below → (at : Bool) → eqb value tenth ≡ at → (low : Bool) → leb b 53 ≡ low
+        → (48 ≤ b) × (b ≤ 57)
+        → (below || (at && low)) ≡ leb (appended value b) largest
+    room true v at e low l h = sym (le-leb (appended value b) largest (omega (arith, ltb-true value tenth v, h)))
+    room false v true e true l h =
+        sym (le-leb (appended value b) largest (omega (arith, eqb-true value tenth e, leb-true b 53 l, h)))
+    room false v true e false l h =
+        sym (lt-leb (appended value b) largest (omega (arith, eqb-true value tenth e, leb-false b 53 l, h)))
+    room false v false e low l h =
+        sym (lt-leb (appended value b) largest (omega (arith, ltb-false value tenth v, eqb-false value tenth e, h)))
+
+    digit : (t : Bool) → isDigit b ≡ t
+        → (t && (ltb value tenth || (eqb value tenth && leb b 53))) ≡ (t && leb (appended value b) largest)
+    digit false e = refl
+    digit true e = room (ltb value tenth) refl (eqb value tenth) refl (leb b 53) refl (digit-range b e)
+
+-- With a digit that passes, which the code has as `w`, the new value fits.
+module _ (value b : ℕ) (next : Bool) (test : next ≡ isNextDigit value b) (passed : not next ≡ false) where
+  range : (48 ≤ b) × (appended value b ≤ largest)
+  range =
+      let both = and-both (isDigit b) (leb (appended value b) largest) (sym test ∙ not-false next passed) in
+      (digit-range b (both .0) .0, leb-true (appended value b) largest (both .1))
+
+  pub tenfold-fits : Fits w64 (10 * value)
+  tenfold-fits = record { fits = omega (arith, range) }
+
+  pub is-from-48 : (w : ℕ) → w ≡ b → 48 ≤ w
+  is-from-48 w e = omega (arith, range)
+
+  pub sum-fits : (w : ℕ) → w ≡ b → Fits w64 (appended value w)
+  sum-fits w e = record { fits = omega (arith, range) }
+
+pub ruleset next-fits = (tenfold-fits, is-from-48, sum-fits)
+
+-- The loop: the value is that of the digits before `i`.
+module _ (text : List ℕ) (most value i : ℕ) (told : numberAfter most 0 text ≡ numberAfter most value (drop i text)) where
+  -- A byte more: `next` is what the test of it answered.
+  module _ (more : i < length text) (next : Bool) (test : next ≡ isNextDigit value (getD text i 0)) where
+    pub goes-on : not next ≡ false → (b : ℕ) → b ≡ getD text i 0
+        → numberAfter most 0 text ≡ numberAfter most (appended value b) (drop (i + 1) text)
+    unfolding numberAfter areDigits valueAfter
+    goes-on e b is =
+        let both = and-both (isDigit (getD text i 0)) (leb (appended value (getD text i 0)) largest) (sym test ∙ not-false next e) in
+        rw (told, drop-cons text i 0 more, add-one, is, both .0)
+
+    pub stops : not next ≡ true → Fits w64 most → none ≡ numberAfter most 0 text
+    unfolding numberAfter areDigits valueAfter
+    stops e h = rw (told, drop-cons text i 0 more) (digit (isDigit b) refl)
+      where
+        b : ℕ
+        b = getD text i 0
+
+        rest : List ℕ
+        rest = drop (suc i) text
+
+        all : ℕ
+        all = valueAfter (appended value b) rest
+
+        over : largest < appended value b → leb all most ≡ false
+        over k = lt-leb all most (omega (arith, grows (appended value b) rest, h .fits, k))
+
+        digit : (t : Bool) → isDigit b ≡ t → none ≡ only ((isDigit b && areDigits rest) && leb all most) all
+        digit false k = rw k
+        digit true k =
+            rw (over (leb-false (appended value b) largest (rw k at (sym test ∙ not-true next e))), and-false)
+
+  -- The end.
+  module _ (done : length text ≤ i) where
+    pub within : value ≤ most → some value ≡ numberAfter most 0 text
+    unfolding numberAfter areDigits valueAfter
+    within h = rw (told, drop-of-length-le text {i = i} done, le-leb value most h)
+
+    pub above-most : most < value → none ≡ numberAfter most 0 text
+    unfolding numberAfter areDigits valueAfter
+    above-most h = rw (told, drop-of-length-le text {i = i} done, lt-leb value most h)
+
+-- Before the digits: the test of the start as the code makes it, and what it comes to.
+pub empty-start : (text : List ℕ) → length text ≡ 0 → false ≡ hasNumeralStart text
+empty-start [] e = refl
+empty-start (b ∷ text) e = absurd (omega (arith, e))
+
+pub full-start : (text : List ℕ) → (length text ≡ 0 → ⊥) → (eqb (length text) 1 || not (eqb (getD text 0 0) 48)) ≡ hasNumeralStart text
+full-start [] full = absurd (full refl)
+full-start (b ∷ []) full = refl
+full-start (b ∷ c ∷ text) full = rw (ne-eqb (suc (suc (length text))) 1 (omega arith))
+
+numeral : (text : List ℕ) → isNumeral text ≡ (areDigits text && hasNumeralStart text)
+unfolding areDigits
+numeral [] = refl
+numeral (b ∷ text) = refl
+
+module _ (text : List ℕ) (most : ℕ) (start : Bool) (told : start ≡ hasNumeralStart text) where
+  pub no-numeral : start ≡ false → none ≡ number most text
+  unfolding number
+  no-numeral e = rw (numeral text, ← told, e, and-false)
+
+  pub numeral-number : start ≡ true → (r : Option ℕ) → r ≡ numberAfter most 0 text → r ≡ number most text
+  unfolding number numberAfter
+  numeral-number e r is = rw (numeral text, ← told, e, and-true) is

@@ -1,0 +1,111 @@
+// Reading numbers and IPv4 addresses: "digits 0 to 9 only, no leading zero except for 0 itself", and "four such numbers up to 255,
+// parted by dots". "Each read whole or refused whole."
+use rules::Ipv4Address;
+ghost use Prim.Native.Nat.{_+_, _*_, _<_};
+ghost use mathlib.Core.Path.{_≡_};
+ghost use Rattle.lines.specs.Numbers as Numbers;
+ghost use Rattle.numerals.specs.Parts.{readingOf, addressOf, isNextDigit, numberAfter, hasNumeralStart};
+
+// What a text is as a number.
+pub enum Reading {
+    Malformed,
+    Number(u64),
+}
+
+// What a text is as an address.
+pub enum AddressReading {
+    Malformed,
+    Address(Ipv4Address),
+}
+
+// Whether a byte is a digit that keeps a value within 64 bits: 1,844,674,407,370,955,161 and a 5 make 2^64 - 1.
+fn is_next_digit(value: u64, byte: u8) -> bool
+    ensures { λ r. ⌜ r ≡ isNextDigit value byte ⌝ }
+{
+    (b'0' <= byte)
+        & (byte <= b'9')
+        & ((value < 1844674407370955161) | ((value == 1844674407370955161) & (byte <= b'5')))
+}
+
+fn wide(byte: u8) -> u64
+    ensures { λ r. ⌜ r ≡ byte ⌝ }
+{
+    byte as u64
+}
+
+// The number that digits stand for.
+fn digits(text: &[u8], most: u64) -> Reading
+    ensures { λ r. ⌜ readingOf r ≡ numberAfter most 0 (now (text .entry)) ⌝ }
+{
+    let mut value: u64 = 0;
+    let mut i: usize = 0;
+    while i < text.len() {
+        let byte = text[i];
+        if !is_next_digit(value, byte) {
+            return Reading::Malformed;
+        }
+        value = 10 * value + (wide(byte) - 48);
+        i += 1;
+    }
+    if value <= most {
+        Reading::Number(value)
+    } else {
+        Reading::Malformed
+    }
+}
+
+// Whether a text is not empty and begins with a 0 only if that is all of it.
+fn has_numeral_start(text: &[u8]) -> bool
+    ensures { λ r. ⌜ r ≡ hasNumeralStart (now (text .entry)) ⌝ }
+{
+    if text.len() == 0 {
+        false
+    } else {
+        (text.len() == 1) | (text[0] != b'0')
+    }
+}
+
+// A number up to the largest allowed.
+pub fn number(text: &[u8], most: u64) -> Reading
+    ensures { λ r. ⌜ readingOf r ≡ Numbers.number most (now (text .entry)) ⌝ }
+{
+    if has_numeral_start(text) {
+        digits(text, most)
+    } else {
+        Reading::Malformed
+    }
+}
+
+// A byte behind the bytes of a value.
+fn with_byte(value: u64, byte: u64) -> u64
+    requires { ⌜ (value < 16777216) × (byte < 256) ⌝ }
+    ensures { λ r. ⌜ r ≡ value * 256 + byte ⌝ }
+{
+    value * 256 + byte
+}
+
+// Three numbers that end at dots, and a last one.
+pub fn address(text: &[u8]) -> AddressReading
+    ensures { λ r. ⌜ addressOf r ≡ Numbers.address (now (text .entry)) ⌝ }
+{
+    let mut value: u64 = 0;
+    let mut start: usize = 0;
+    let mut count: usize = 0;
+    while count < 3 {
+        let rest = &text[start..];
+        let first = fields::part(rest, b'.');
+        let Reading::Number(byte) = number(first, 255) else {
+            return AddressReading::Malformed;
+        };
+        if first.len() == rest.len() {
+            return AddressReading::Malformed;
+        }
+        value = with_byte(value, byte);
+        start += first.len() + 1;
+        count += 1;
+    }
+    let Reading::Number(byte) = number(&text[start..], 255) else {
+        return AddressReading::Malformed;
+    };
+    AddressReading::Address(Ipv4Address(with_byte(value, byte) as u32))
+}
