@@ -127,10 +127,10 @@ module _ (text : List ℕ) (all : Bool) (told : all ≡ areHex text) where
   pub bytes-foreign : all ≡ false → none ≡ Option·map (take 28) (bytes text)
   bytes-foreign e = no-bytes text (foreign e)
 
-  pub bytes-read : length text ≤ 3_000 → (length text % 2 ≡ 1 → ⊥) → all ≡ true →
+  pub bytes-read : length text ≤ 3_000 → length text % 2 ≡ 0 → all ≡ true →
       (head : List ℕ) → head ≡ take 28 (pairs text) → some head ≡ Option·map (take 28) (bytes text)
   unfolding bytes
-  bytes-read h odd e head is = rw (le-leb (length text) 3_000 h, whole (omega arith) e, is)
+  bytes-read h even e head is = rw (le-leb (length text) 3_000 h, whole even e, is)
 
 module _ (text : List ℕ) where
   pub hardware-length : (length text ≡ 12 → ⊥) → none ≡ hardware text

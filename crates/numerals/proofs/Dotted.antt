@@ -1,4 +1,4 @@
--- The numbers of an address read one after the other: a law for each way that `address` goes on or ends.
+-- The octets of an address read one after the other: a law for each way that `address` goes on or ends.
 use Prim.Native.Nat.{ℕ, suc, _+_, _-_, _*_, _^_, _<_, _≤_}
 use mathlib.Core.Path.{_≡_, refl, ap, ap₂, sym, _∙_}
 use mathlib.Core.Bool.{Bool, true, false, not, _&&_, _||_}
@@ -25,7 +25,7 @@ use Rattle.numerals.specs.declared.Reading.{Reading}
 use Rattle.numerals.specs.declared.Reading.the-variants.{Malformed, Number}
 use Rattle.numerals.proofs.Scan.{digit-range}
 
--- Before the first number.
+-- Before the first octet.
 pub begins : (text : List ℕ) → address text ≡ addressAfter 0 0 (parts dot text)
 unfolding address addressAfter
 begins text = go (each (number 255) (parts dot text))
@@ -35,7 +35,7 @@ begins text = go (each (number 255) (parts dot text))
     go none = refl
     go (some bytes) = simp (zero-mul, zero-add)
 
--- A number more.
+-- An octet more.
 module _ (count value : ℕ) (text : List ℕ) (texts : List (List ℕ)) where
   refused : number 255 text ≡ none → addressAfter count value (text ∷ texts) ≡ none
   unfolding addressAfter each
@@ -54,7 +54,7 @@ module _ (count value : ℕ) (text : List ℕ) (texts : List (List ℕ)) where
           = simp (pow-succ', add-mul, mul-assoc, add-assoc) in
           ap₂ (λ a b. only (eqb a 4) (record { 0 = b })) so-many worth
 
--- Texts that are not four in all make no address; four numbers do.
+-- Texts that are not four in all make no address; four octets do.
 not-four : (count value : ℕ) (texts : List (List ℕ)) → (count + length texts ≡ 4 → ⊥) → addressAfter count value texts ≡ none
 unfolding addressAfter each
 not-four count value [] h = rw (ne-eqb (count + 0) 4 h)
@@ -102,7 +102,7 @@ digits-one-part (b ∷ text) e =
 pub to-end : (start : ℕ) (text : List ℕ) → take (length text - start) (drop start text) ≡ drop start text
 to-end start text = take-all (length text - start) (drop start text) (rw length-drop (omega arith))
 
--- `rest` is what is not read yet, and `first` the text of the next number; behind its dot is the next start.
+-- `rest` is what is not read yet, and `first` the text of the next octet; behind its dot is the next start.
 module _ (text : List ℕ) (start : ℕ) (within : start ≤ length text) (rest : List ℕ) (behind : rest ≡ drop start text) where
   module _ (first : List ℕ) (part : first ≡ firstPart dot rest) (more : length first ≡ length rest → ⊥) where
     pub next-within : start + (length first + 1) ≤ length text
@@ -116,13 +116,13 @@ module _ (text : List ℕ) (start : ℕ) (within : start ≤ length text) (rest 
 
 pub ruleset next-start = (to-end, next-within, next-fits, step-fits)
 
--- The loop: `count` numbers stand before `start`, and make the value.
+-- The loop: `count` octets stand before `start`, and make the value.
 module _ (text : List ℕ) (count value start : ℕ) (rest : List ℕ) (behind : rest ≡ drop start text)
     (told : address text ≡ addressAfter count value (parts dot (drop start text))) where
   left : address text ≡ addressAfter count value (parts dot rest)
   left = told ∙ ap (λ t. addressAfter count value (parts dot t)) (sym behind)
 
-  -- Before the last number.
+  -- Before the last octet.
   module _ (first : List ℕ) (part : first ≡ firstPart dot rest) where
     pub part-last : length first ≡ length rest → count < 3 → none ≡ address text
     part-last e h =
@@ -155,7 +155,7 @@ module _ (text : List ℕ) (count value start : ℕ) (rest : List ℕ) (behind :
           place : drop (suc (length (firstPart dot rest))) rest ≡ drop (start + (length first + 1)) text
           place = rw (← part, behind, drop-drop, add-one)
 
-  -- The last number.
+  -- The last octet.
   module _ (last : 3 ≤ count) (within : count ≤ 3) (reading : Reading) (read : readingOf reading ≡ number 255 rest) where
     pub last-malformed : reading ≡ Malformed → none ≡ address text
     last-malformed e = sym (left ∙ go (ltb (length (firstPart dot rest)) (length rest)) refl)
@@ -183,22 +183,20 @@ module _ (text : List ℕ) (count value start : ℕ) (rest : List ℕ) (behind :
         ∙ ap₂ (λ k v. addressAfter k v []) all (sym made)
         ∙ four new)
 
--- The value stays within 32 bits: `new` is the one with a byte more.
+-- The value stays within 32 bits: `new` is the one with an octet more.
 module _ (count value : ℕ) (three : count ≤ 3) (small : value < 256 ^ count) where
   pub value-bound : value < 16_777_216
   value-bound = lt-of-lt-of-le small (pow-le-pow-right {n = 256} (omega arith) three)
 
   module _ (text : List ℕ) (reading : Reading) (read : readingOf reading ≡ number 255 text) (n : ℕ) (is : reading ≡ Number n) where
-    pub byte-bound : n < 256
-    byte-bound = omega (arith, number-most 255 n text (sym read ∙ ap readingOf is))
+    pub octet-bound : n < 256
+    octet-bound = omega (arith, number-most 255 n text (sym read ∙ ap readingOf is))
 
     module _ (new : ℕ) (made : new ≡ value * 256 + n) where
       pub new-fits : Fits w32 new
-      new-fits = record { fits = omega (arith, value-bound, byte-bound) }
+      new-fits = record { fits = omega (arith, value-bound, octet-bound) }
 
       pub new-small : new < 256 ^ (count + 1)
-      new-small = rw (made, add-one, pow-succ', mul-comm 256 (256 ^ count)) (digits-lt small byte-bound)
+      new-small = rw (made, add-one, pow-succ', mul-comm 256 (256 ^ count)) (digits-lt small octet-bound)
 
-pub ruleset address-ends = (to-end, part-last, part-malformed, part-number, last-malformed, last-number)
-
-pub ruleset value-fits = (value-bound, byte-bound, new-fits, new-small)
+pub ruleset value-fits = (value-bound, octet-bound, new-fits, new-small)

@@ -47,10 +47,10 @@ fn digits(text: &[u8], most: u64) -> Reading
         value = 10 * value + (wide(byte) - 48);
         i += 1;
     }
-    if value <= most {
-        Reading::Number(value)
-    } else {
+    if most < value {
         Reading::Malformed
+    } else {
+        Reading::Number(value)
     }
 }
 
@@ -76,15 +76,22 @@ pub fn number(text: &[u8], most: u64) -> Reading
     }
 }
 
-// A byte behind the bytes of a value.
-fn with_byte(value: u64, byte: u64) -> u64
-    requires { ⌜ (value < 16777216) × (byte < 256) ⌝ }
-    ensures { λ r. ⌜ r ≡ value * 256 + byte ⌝ }
+// One of the four numbers of an address.
+fn octet(text: &[u8]) -> Reading
+    ensures { λ r. ⌜ readingOf r ≡ Numbers.number 255 (now (text .entry)) ⌝ }
 {
-    value * 256 + byte
+    number(text, 255)
 }
 
-// Three numbers that end at dots, and a last one.
+// An octet behind those of a value.
+fn with_octet(value: u64, octet: u64) -> u64
+    requires { ⌜ (value < 16777216) × (octet < 256) ⌝ }
+    ensures { λ r. ⌜ r ≡ value * 256 + octet ⌝ }
+{
+    value * 256 + octet
+}
+
+// Three octets that end at dots, and a last one.
 pub fn address(text: &[u8]) -> AddressReading
     ensures { λ r. ⌜ addressOf r ≡ Numbers.address (now (text .entry)) ⌝ }
 {
@@ -94,18 +101,18 @@ pub fn address(text: &[u8]) -> AddressReading
     while count < 3 {
         let rest = &text[start..];
         let first = fields::part(rest, b'.');
-        let Reading::Number(byte) = number(first, 255) else {
+        let Reading::Number(next) = octet(first) else {
             return AddressReading::Malformed;
         };
         if first.len() == rest.len() {
             return AddressReading::Malformed;
         }
-        value = with_byte(value, byte);
+        value = with_octet(value, next);
         start += first.len() + 1;
         count += 1;
     }
-    let Reading::Number(byte) = number(&text[start..], 255) else {
+    let Reading::Number(last) = octet(&text[start..]) else {
         return AddressReading::Malformed;
     };
-    AddressReading::Address(Ipv4Address(with_byte(value, byte) as u32))
+    AddressReading::Address(Ipv4Address(with_octet(value, last) as u32))
 }

@@ -1,4 +1,5 @@
 -- `hex::bytes`: too many digits, an odd count, bytes, a byte that is no digit.
+use native.Mathlib.Omega.{arith}
 use borrow.Author.Needs.{needs}
 use Rattle.hex.proofs.Laws.{bytes-long, bytes-odd, bytes-read, bytes-foreign}
 use Rattle.hex.proofs.bytes.Statement.{statement}
@@ -8,13 +9,15 @@ read-head-requires : tie.Need-read-head-requires
 read-head-requires c κs = search needs
 
 returns : tie.Need-returns
-returns c = search (bytes-long, needs)
+returns c = bytes-long _ (omega arith)
 
 returns-2 : tie.Need-returns-2
-returns-2 c = search (bytes-odd, needs)
+returns-2 c = bytes-odd _ (omega arith)
 
 returns-3 : tie.Need-returns-3
-returns-3 c = search (bytes-read, needs)
+returns-3 c =
+    bytes-read _ _ (c .before .before .before .are-hex .ensures) (omega arith) (omega arith) (c .before .before .if3 .taken)
+    _ (c .read-head .ensures)
 
 returns-4 : tie.Need-returns-4
 returns-4 c = search bytes-foreign

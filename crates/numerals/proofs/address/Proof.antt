@@ -1,4 +1,4 @@
--- `numerals::address`: `count` numbers stand before `start`, and make the value.
+-- `numerals::address`: `count` octets stand before `start`, and make the value.
 use Prim.Native.Nat.{_-_, _^_, _≤_, _<_}
 use mathlib.Core.Path.{_≡_}
 use lib.ListN.{length, drop}
@@ -6,7 +6,7 @@ use borrow.Author.Needs.{needs}
 use Rattle.lines.specs.Fields.{dot, parts}
 use Rattle.lines.specs.Numbers.{address}
 use Rattle.numerals.specs.Parts.{addressAfter}
-use Rattle.numerals.proofs.Dotted.{begins, next-start, address-ends, value-fits}
+use Rattle.numerals.proofs.Dotted.{begins, to-end, next-start, value-fits, part-last, part-malformed, part-number, last-malformed, last-number}
 use Rattle.numerals.proofs.address.Statement.{statement}
 use Rattle.numerals.proofs.address.Tie as tie
 
@@ -22,13 +22,13 @@ loop-holds : tie.Need-loop-holds Inv-loop μ-loop
 loop-holds c = search (begins, needs)
 
 returns : tie.Need-returns Inv-loop μ-loop
-returns c = search (address-ends, needs)
+returns c = search (to-end, part-malformed, needs)
 
 returns-2 : tie.Need-returns-2 Inv-loop μ-loop
-returns-2 c = search (address-ends, needs)
+returns-2 c = search (to-end, part-last, needs)
 
-with-byte-requires : tie.Need-with-byte-requires Inv-loop μ-loop
-with-byte-requires c κs = search (value-fits, needs)
+with-octet-requires : tie.Need-with-octet-requires Inv-loop μ-loop
+with-octet-requires c κs = search (value-fits, needs)
 
 add-start : tie.Need-add-start Inv-loop μ-loop
 add-start c = search (next-start, needs)
@@ -37,19 +37,19 @@ add-start-2 : tie.Need-add-start-2 Inv-loop μ-loop
 add-start-2 c = search (next-start, needs)
 
 loop-again : tie.Need-loop-again Inv-loop μ-loop
-loop-again c = (search (next-start, needs), search needs, search (value-fits, needs), search (address-ends, needs))
+loop-again c = (search (next-start, needs), search needs, search (value-fits, needs), search (to-end, part-number, needs))
 
 returns-3 : tie.Need-returns-3 Inv-loop μ-loop
-returns-3 c = search (address-ends, needs)
+returns-3 c = search (to-end, last-malformed, needs)
 
-with-byte-requires-2 : tie.Need-with-byte-requires-2 Inv-loop μ-loop
-with-byte-requires-2 c κs = search (value-fits, needs)
+with-octet-requires-2 : tie.Need-with-octet-requires-2 Inv-loop μ-loop
+with-octet-requires-2 c κs = search (value-fits, needs)
 
 cast-t21 : tie.Need-cast-t21 Inv-loop μ-loop
 cast-t21 c = search (value-fits, needs)
 
 returns-4 : tie.Need-returns-4 Inv-loop μ-loop
-returns-4 c = search (address-ends, needs)
+returns-4 c = search (to-end, last-number, needs)
 
 pub address-spec : {M : Type 1} → statement M
 address-spec =
@@ -67,7 +67,7 @@ address-spec =
     (λ c. search needs)
     returns
     returns-2
-    with-byte-requires
+    with-octet-requires
     add-start
     add-start-2
     (λ c. search needs)
@@ -80,6 +80,6 @@ address-spec =
     (λ c. search needs)
     (λ c. search needs)
     returns-3
-    with-byte-requires-2
+    with-octet-requires-2
     cast-t21
     returns-4)

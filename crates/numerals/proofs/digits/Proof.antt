@@ -30,10 +30,10 @@ loop-again : tie.Need-loop-again Inv-loop μ-loop
 loop-again c = search (goes-on, needs)
 
 returns-2 : tie.Need-returns-2 Inv-loop μ-loop
-returns-2 c = search (within, needs)
+returns-2 c = search (above-most, needs)
 
 returns-3 : tie.Need-returns-3 Inv-loop μ-loop
-returns-3 c = search (above-most, needs)
+returns-3 c = search (within, needs)
 
 pub digits-spec : {M : Type 1} → statement M
 digits-spec =

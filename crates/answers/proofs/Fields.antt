@@ -1,0 +1,60 @@
+-- How what the inner functions promise makes up an answer: a law for each field.
+use Prim.Native.Nat.{ℕ, _≤_}
+use mathlib.Core.Path.{_≡_, refl}
+use mathlib.Core.Bool.{Bool, true, false}
+use mathlib.Core.List.{List, [], _∷_, _++_}
+use mathlib.Core.Option.{Option, none, some}
+use native.Mathlib.Omega.{arith}
+use lib.ListN.{length}
+use lib.Dec.{lit≤}
+use Rattle.rules.specs.Answers.{Accepted, kindWord}
+use Rattle.rules.specs.declared.Frame.{Frame}
+use Rattle.rules.specs.declared.Kind.{Kind}
+use Rattle.rules.specs.declared.Kind.the-variants.{Fresh, Taken, Nothing, Probe, Announce, Defend, Lost, Kept, Dropped}
+use Rattle.lines.specs.Fields.{tab, newline}
+use Rattle.lines.specs.Numbers.{decimal, hexText}
+use Rattle.lines.specs.Answers.{okWord, refusedWord, dash, numberText, frameText, refusedText, acceptedText}
+use Rattle.answers.specs.Parts.{Put, sends, shown, acceptedWith}
+use Rattle.lines.proofs.HexLaws.{hex-length}
+use Rattle.answers.proofs.Puts.{put-as, put-append}
+
+pub kind-within : (kind : Kind) → length (okWord ++ (tab ∷ kindWord kind)) ≤ 11
+unfolding kindWord
+kind-within Fresh = lit≤ tt
+kind-within Taken = lit≤ tt
+kind-within Nothing = lit≤ tt
+kind-within Probe = lit≤ tt
+kind-within Announce = lit≤ tt
+kind-within Defend = lit≤ tt
+kind-within Lost = lit≤ tt
+kind-within Kept = lit≤ tt
+kind-within Dropped = lit≤ tt
+
+module _ {m at next : ℕ} {old new : List ℕ} where
+  pub none-put : {number : Option ℕ} → number ≡ none → Put (tab ∷ dash) m at old new next →
+      Put (tab ∷ numberText number) 21 at old new next
+  none-put e p = rw e (put-as refl (lit≤ tt) p)
+
+  -- `sent` is what the test of the kind answered.
+  module _ (kind : Kind) (frame : List ℕ) {sent : Bool} (told : sent ≡ sends kind) where
+    pub shown-put : sent ≡ true → length frame ≡ 28 → Put (tab ∷ hexText frame) m at old new next →
+        Put (tab ∷ shown kind frame) 57 at old new next
+    shown-put e long p = rw (← told, e) (put-as refl (omega (arith, hex-length frame)) p)
+
+    pub hidden-put : sent ≡ false → Put (tab ∷ dash) m at old new next → Put (tab ∷ shown kind frame) 57 at old new next
+    hidden-put e p = rw (← told, e) (put-as refl (lit≤ tt) p)
+
+pub some-put : {at next : ℕ} {old new : List ℕ} {number : Option ℕ} {n : ℕ} → number ≡ some n → Put (tab ∷ decimal n) 21 at old new next →
+    Put (tab ∷ numberText number) 21 at old new next
+some-put e p = rw e p
+
+-- `n` is what the code has for the number k of the refusal.
+pub refused-put : {n k p q next : ℕ} {old begun numbered new : List ℕ} → n ≡ k → Put refusedWord 7 0 old begun p →
+    Put (tab ∷ decimal n) 21 p begun numbered q → Put (newline ∷ []) 1 q numbered new next → Put (refusedText k) 29 0 old new next
+unfolding refusedText
+refused-put e f g h = rw (← e) (put-append (put-append f g) h)
+
+-- The crate lines' text of an answer and its frame.
+pub accepted-text : (answer : Accepted) (frame : Option Frame) → acceptedText answer frame ≡ acceptedWith answer (frameText frame)
+unfolding acceptedText acceptedWith
+accepted-text answer frame = refl

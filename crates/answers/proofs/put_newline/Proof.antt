@@ -1,0 +1,16 @@
+-- `answers::put_newline`: one byte.
+use borrow.Author.Needs.{needs}
+use Rattle.answers.proofs.put_newline.Statement.{statement}
+use Rattle.answers.proofs.put_newline.Tie as tie
+
+returns : tie.Need-returns
+returns c = search needs
+
+pub put-newline-spec : {M : Type 1} → statement M
+put-newline-spec =
+    tie.close
+    (tie.spec
+    (λ c. search needs)
+    (λ c. search needs)
+    (λ c. search needs)
+    returns)

@@ -1,0 +1,27 @@
+-- `answers::sends`: each kind.
+use borrow.Author.Needs.{needs}
+use Rattle.answers.proofs.sends.Statement.{statement}
+use Rattle.answers.proofs.sends.Tie as tie
+
+pub sends-spec : {M : Type 1} → statement M
+sends-spec =
+    tie.close
+    (tie.spec
+    (λ c. search needs)
+    (λ c. search needs)
+    (λ c. search needs)
+    (λ c. search needs)
+    (λ c. search needs)
+    (λ c. search needs)
+    (λ c. search needs)
+    (λ c. search needs)
+    (λ c. search needs)
+    (λ c. search needs)
+    (λ c. search needs)
+    (λ c. search needs)
+    (λ c. search needs)
+    (λ c. search needs)
+    (λ c. search needs)
+    (λ c. search needs)
+    (λ c. search needs)
+    (λ c. search needs))

@@ -1,0 +1,302 @@
+// An answer's text, written into an out buffer: document 01, "Output per line".
+use rules::Kind;
+use rules::Moment;
+use rules::Refusal;
+use rules::SlotNumber;
+ghost use Prim.Native.Nat.{_+_, _*_, _%_, _≤_, _<_};
+ghost use mathlib.Core.Path.{_≡_};
+ghost use mathlib.Core.List.{[], _∷_, _++_};
+ghost use lib.ListN.{length, take};
+ghost use Rattle.rules.specs.Answers.{kindWord, slotOf, timeOf, refusalNumber};
+ghost use Rattle.lines.specs.Fields.{tab, newline};
+ghost use Rattle.lines.specs.Numbers.{decimal, hexGlyph, hexText};
+ghost use Rattle.lines.specs.Answers.{okWord, dash, numberText, refusedText, longestAnswer, written};
+ghost use Rattle.answers.specs.Parts.{Put, shown, acceptedWith};
+ghost use Rattle.answers.specs.Parts.{sends as Parts·sends};
+
+// Puts a text at a place, and answers the place after it. So do the others named `put`.
+fn put(text: &[u8], out: &mut [u8], at: usize) -> usize
+    requires { ⌜ at + length (now text) ≤ length (now out) ⌝ }
+    ensures { λ r. ⌜ Put (now (text .entry)) (length (now (text .entry))) at (now (out .entry)) (now (out .exit)) r ⌝ }
+{
+    let mut i = 0;
+    while i < text.len() {
+        out[at + i] = text[i];
+        i += 1;
+    }
+    at + i
+}
+
+// How many digits a number has, counted two at a time.
+fn digit_count(n: u64) -> usize
+    ensures { λ r. ⌜ r ≡ length (decimal n) ⌝ }
+{
+    let mut count: usize = 0;
+    let mut rest = n;
+    while 100 <= rest {
+        rest = rest / 100;
+        count += 2;
+    }
+    if 10 <= rest { count + 2 } else { count + 1 }
+}
+
+// The last digit of a number.
+fn digit(n: u64) -> u8
+    ensures { λ r. ⌜ r ≡ 48 + n % 10 ⌝ }
+{
+    48 + (n % 10) as u8
+}
+
+// The digits of a number, the last two first.
+fn put_decimal(n: u64, out: &mut [u8], at: usize) -> usize
+    requires { ⌜ at + 20 ≤ length (now out) ⌝ }
+    ensures { λ r. ⌜ Put (decimal n) 20 at (now (out .entry)) (now (out .exit)) r ⌝ }
+{
+    let end = at + digit_count(n);
+    let mut i = end;
+    let mut rest = n;
+    while 100 <= rest {
+        out[i - 1] = digit(rest);
+        out[i - 2] = digit(rest / 10);
+        rest = rest / 100;
+        i -= 2;
+    }
+    if 10 <= rest {
+        out[at + 1] = digit(rest);
+        out[at] = digit(rest / 10);
+    } else {
+        out[at] = digit(rest);
+    }
+    end
+}
+
+fn hex_glyph(digit: u8) -> u8
+    requires { ⌜ digit < 16 ⌝ }
+    ensures { λ r. ⌜ r ≡ hexGlyph digit ⌝ }
+{
+    if digit < 10 { 48 + digit } else { 87 + digit }
+}
+
+// Bytes, two digits each.
+fn put_hex(bytes: &[u8], out: &mut [u8], at: usize) -> usize
+    requires { ⌜ at + 2 * length (now bytes) ≤ length (now out) ⌝ }
+    ensures { λ r. ⌜ Put (hexText (now (bytes .entry))) (2 * length (now (bytes .entry))) at (now (out .entry)) (now (out .exit)) r ⌝ }
+{
+    let mut i = 0;
+    while i < bytes.len() {
+        let byte = bytes[i];
+        let place = at + 2 * i;
+        out[place] = hex_glyph(byte / 16);
+        out[place + 1] = hex_glyph(byte % 16);
+        i += 1;
+    }
+    at + 2 * i
+}
+
+// A tab and a number.
+fn put_number(n: u64, out: &mut [u8], at: usize) -> usize
+    requires { ⌜ at + 21 ≤ length (now out) ⌝ }
+    ensures { λ r. ⌜ Put (tab ∷ decimal n) 21 at (now (out .entry)) (now (out .exit)) r ⌝ }
+{
+    out[at] = b'\t';
+    put_decimal(n, out, at + 1)
+}
+
+// A tab and `-`.
+fn put_none(out: &mut [u8], at: usize) -> usize
+    requires { ⌜ at + 2 ≤ length (now out) ⌝ }
+    ensures { λ r. ⌜ Put (tab ∷ dash) 2 at (now (out .entry)) (now (out .exit)) r ⌝ }
+{
+    out[at] = b'\t';
+    out[at + 1] = b'-';
+    at + 2
+}
+
+fn put_slot(slot: SlotNumber, out: &mut [u8], at: usize) -> usize
+    requires { ⌜ at + 21 ≤ length (now out) ⌝ }
+    ensures { λ r. ⌜ Put (tab ∷ numberText (slotOf slot)) 21 at (now (out .entry)) (now (out .exit)) r ⌝ }
+{
+    match slot {
+        SlotNumber::Absent => put_none(out, at),
+        SlotNumber::Slot(n) => put_number(n, out, at),
+    }
+}
+
+fn put_next(next: Moment, out: &mut [u8], at: usize) -> usize
+    requires { ⌜ at + 21 ≤ length (now out) ⌝ }
+    ensures { λ r. ⌜ Put (tab ∷ numberText (timeOf next)) 21 at (now (out .entry)) (now (out .exit)) r ⌝ }
+{
+    match next {
+        Moment::Never => put_none(out, at),
+        Moment::At(time) => put_number(time.0, out, at),
+    }
+}
+
+// Whether a kind hands out a frame.
+fn sends(kind: Kind) -> bool
+    ensures { λ r. ⌜ r ≡ Parts·sends kind ⌝ }
+{
+    match kind {
+        Kind::Fresh => false,
+        Kind::Taken => false,
+        Kind::Nothing => false,
+        Kind::Probe => true,
+        Kind::Announce => true,
+        Kind::Defend => true,
+        Kind::Lost => false,
+        Kind::Kept => false,
+        Kind::Dropped => false,
+    }
+}
+
+fn put_frame(kind: Kind, frame: &[u8; 28], out: &mut [u8], at: usize) -> usize
+    requires { ⌜ at + 57 ≤ length (now out) ⌝ }
+    ensures { λ r. ⌜ Put (tab ∷ shown kind (now (frame .entry))) 57 at (now (out .entry)) (now (out .exit)) r ⌝ }
+{
+    if sends(kind) {
+        out[at] = b'\t';
+        put_hex(frame, out, at + 1)
+    } else {
+        put_none(out, at)
+    }
+}
+
+// How an accepted answer begins, padded to the longest.
+const FRESH: [u8; 11] = *b"ok\tfresh   ";
+
+const TAKEN: [u8; 11] = *b"ok\ttaken   ";
+
+const NOTHING: [u8; 11] = *b"ok\tnone    ";
+
+const PROBE: [u8; 11] = *b"ok\tprobe   ";
+
+const ANNOUNCE: [u8; 11] = *b"ok\tannounce";
+
+const DEFEND: [u8; 11] = *b"ok\tdefend  ";
+
+const LOST: [u8; 11] = *b"ok\tlost    ";
+
+const KEPT: [u8; 11] = *b"ok\tkept    ";
+
+const DROPPED: [u8; 11] = *b"ok\tdropped ";
+
+// A text and its padding.
+struct Padded {
+    text: [u8; 11],
+    length: usize,
+}
+
+// `ok` and the kind.
+fn beginning(kind: Kind) -> Padded
+    ensures { λ r. ⌜ (r .length ≤ length (r .text)) × (take (r .length) (r .text) ≡ okWord ++ (tab ∷ kindWord kind)) ⌝ }
+{
+    match kind {
+        Kind::Fresh => Padded {
+            text: FRESH,
+            length: 8,
+        },
+        Kind::Taken => Padded {
+            text: TAKEN,
+            length: 8,
+        },
+        Kind::Nothing => Padded {
+            text: NOTHING,
+            length: 7,
+        },
+        Kind::Probe => Padded {
+            text: PROBE,
+            length: 8,
+        },
+        Kind::Announce => Padded {
+            text: ANNOUNCE,
+            length: 11,
+        },
+        Kind::Defend => Padded {
+            text: DEFEND,
+            length: 9,
+        },
+        Kind::Lost => Padded {
+            text: LOST,
+            length: 7,
+        },
+        Kind::Kept => Padded {
+            text: KEPT,
+            length: 7,
+        },
+        Kind::Dropped => Padded {
+            text: DROPPED,
+            length: 10,
+        },
+    }
+}
+
+fn put_kind(kind: Kind, out: &mut [u8]) -> usize
+    requires { ⌜ 11 ≤ length (now out) ⌝ }
+    ensures { λ r. ⌜ Put (okWord ++ (tab ∷ kindWord kind)) 11 0 (now (out .entry)) (now (out .exit)) r ⌝ }
+{
+    let begun = beginning(kind);
+    let text = begun.text;
+    let length = begun.length;
+    put(&text[..length], out, 0)
+}
+
+// The byte 10 that ends every answer.
+fn put_newline(out: &mut [u8], at: usize) -> usize
+    requires { ⌜ at + 1 ≤ length (now out) ⌝ }
+    ensures { λ r. ⌜ Put (newline ∷ []) 1 at (now (out .entry)) (now (out .exit)) r ⌝ }
+{
+    out[at] = b'\n';
+    at + 1
+}
+
+// Writes `ok`, kind, slot, next deadline, and the frame if the kind hands one out. Answers how many bytes.
+pub fn accepted(
+    kind: Kind,
+    slot: SlotNumber,
+    next: Moment,
+    frame: &[u8; 28],
+    out: &mut [u8],
+) -> usize
+    requires { ⌜ longestAnswer ≤ length (now out) ⌝ }
+    ensures { λ r. ⌜ r ≡ length (acceptedWith (record { kind = kind; slot = slotOf slot; next = timeOf next }) (shown kind (now (frame .entry)))) ⌝ }
+    ensures { λ r. ⌜ now (out .exit) ≡ written (acceptedWith (record { kind = kind; slot = slotOf slot; next = timeOf next }) (shown kind (now (frame .entry)))) (now (out .entry)) ⌝ }
+{
+    let slot_at = put_kind(kind, out);
+    let next_at = put_slot(slot, out, slot_at);
+    let frame_at = put_next(next, out, next_at);
+    let end = put_frame(kind, frame, out, frame_at);
+    put_newline(out, end)
+}
+
+// Document 01, "Refusal numbers".
+fn number(refusal: Refusal) -> u64
+    ensures { λ r. ⌜ r ≡ refusalNumber refusal ⌝ }
+{
+    match refusal {
+        Refusal::StateNotSound => 1,
+        Refusal::HardwareNotAllowed => 2,
+        Refusal::TimeAboveRange => 3,
+        Refusal::TimeBelowLatest => 4,
+        Refusal::BufferTooShort => 5,
+        Refusal::PacketTooShort => 6,
+        Refusal::FrameUnknown => 7,
+        Refusal::AddressNotAllowed => 8,
+        Refusal::PolicyUnknown => 9,
+        Refusal::AddressHeld => 10,
+        Refusal::NoSlotFree => 11,
+        Refusal::TooManyRequests => 12,
+        Refusal::SlotNotHeld => 13,
+        Refusal::LineMalformed => 14,
+    }
+}
+
+// Writes `refused` and the number. Answers how many bytes.
+pub fn refused(refusal: Refusal, out: &mut [u8]) -> usize
+    requires { ⌜ longestAnswer ≤ length (now out) ⌝ }
+    ensures { λ r. ⌜ r ≡ length (refusedText (refusalNumber refusal)) ⌝ }
+    ensures { λ r. ⌜ now (out .exit) ≡ written (refusedText (refusalNumber refusal)) (now (out .entry)) ⌝ }
+{
+    let number_at = put(b"refused", out, 0);
+    let end = put_number(number(refusal), out, number_at);
+    put_newline(out, end)
+}

@@ -1,0 +1,17 @@
+-- `line::answer_line`.
+use borrow.Author.Needs.{needs}
+use Rattle.line.proofs.Laws.{line-gives}
+use Rattle.line.proofs.answer_line.Statement.{statement}
+use Rattle.line.proofs.answer_line.Tie as tie
+
+returns : tie.Need-returns
+returns c = search line-gives
+
+pub answer-line-spec : {M : Type 1} → statement M
+answer-line-spec =
+    tie.close
+    (tie.spec
+    (λ c κs. search needs)
+    (λ c κs. search needs)
+    (λ c. search needs)
+    returns)

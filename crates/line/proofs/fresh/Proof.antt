@@ -1,0 +1,17 @@
+-- `line::fresh`.
+use borrow.Author.Needs.{needs}
+use Rattle.line.proofs.Laws.{fresh-gives}
+use Rattle.line.proofs.fresh.Statement.{statement}
+use Rattle.line.proofs.fresh.Tie as tie
+
+returns : tie.Need-returns
+returns c = search fresh-gives
+
+pub fresh-spec : {M : Type 1} → statement M
+fresh-spec =
+    tie.close
+    (tie.spec
+    (λ c κs. search needs)
+    (λ c κs. search needs)
+    (λ c. search needs)
+    returns)

@@ -1,0 +1,4 @@
+-- Laws that the functions' proofs cite.
+mod Moves
+mod Places
+mod Turns

@@ -1,0 +1,176 @@
+// A replay whose input arrives in pieces: the lines at hand are answered, and what is left of the input is kept for the next call.
+use line::Answered;
+use lines::LONGEST_ANSWER;
+use lines::LONGEST_LINE;
+use lines::Stream;
+use rules::HardwareAddress;
+use rules::Interface;
+use rules::Moment;
+use rules::Time;
+ghost use Prim.Native.Nat.{_+_, _≤_};
+ghost use mathlib.Core.Path.{_≡_};
+ghost use mathlib.Core.Bool.{cond};
+ghost use lib.ListN.{length, take, drop};
+ghost use Rattle.machine.specs.Bench.{zeros};
+ghost use Rattle.lines.specs.Fields.{newline, firstPart};
+ghost use Rattle.lines.specs.Answers.{longestAnswer, hasRoom, written};
+ghost use Rattle.lines.specs.Stream.{atLineStart, keptLength, kept};
+ghost use Rattle.lines.specs.Stream as Streams;
+ghost use Rattle.stream.specs.Parts.{lineEnd, writtenAt};
+
+// What a call of work did: the stream afterwards, how many bytes of the input are used up, how many were written, and whether it
+// waits for more input (else the out buffer was too short to go on).
+pub struct Worked {
+    pub stream: Stream,
+    pub used: usize,
+    pub written: usize,
+    pub waiting: bool,
+}
+
+// What the end of the input did: whether there was room, and how many bytes were written.
+pub struct Finished {
+    pub done: bool,
+    pub written: usize,
+}
+
+// A new replay: at a line's start, the state all zeros.
+pub fn begin() -> Stream
+    ensures { λ r. ⌜ r ≡ atLineStart zeros ⌝ }
+{
+    let free = steps::free_record();
+    Stream {
+        state: Interface {
+            hardware: HardwareAddress(0),
+            latest: Time(0),
+            request: Moment::Never,
+            conflicts: 0,
+            records: [free, free, free, free],
+        },
+        skipping: false,
+    }
+}
+
+// The line that begins at a place of the input, up to the next byte 10 or to the input's end.
+fn line_at(input: &[u8], at: usize) -> &[u8]
+    requires { ⌜ at ≤ length (now input) ⌝ }
+    ensures { λ r. ⌜ now r ≡ firstPart newline (drop at (now (input .entry))) ⌝ }
+{
+    fields::part(&input[at..], b'\n')
+}
+
+// A whole line answered, behind the answers that are there. "A line that is too long is one record up to its byte 10 and gives
+// one refusal."
+fn answer_at(state: Interface, skipping: bool, line: &[u8], out: &mut [u8], done: usize) -> Answered
+    requires { ⌜ done + longestAnswer ≤ length (now out) ⌝ }
+    ensures { λ r. ⌜ r .state ≡ lineEnd state skipping (now (line .entry)) .state ⌝ }
+    ensures { λ r. ⌜ r .written ≡ length (lineEnd state skipping (now (line .entry)) .text) ⌝ }
+    ensures { λ r. ⌜ now (out .exit) ≡ writtenAt done (lineEnd state skipping (now (line .entry)) .text) (now (out .entry)) ⌝ }
+{
+    let rest = &mut out[done..];
+    if skipping {
+        let written = line::malformed(rest);
+        Answered { state, written }
+    } else {
+        line::answer(state, line, rest)
+    }
+}
+
+// Answers the lines of the input at hand, as far as there is room. What is not used up is to come again, before the bytes that
+// arrive next.
+pub fn work(stream: Stream, input: &[u8], out: &mut [u8]) -> Worked
+    ensures { λ r. ⌜ r .stream ≡ Streams.work stream (now (input .entry)) (length (now (out .entry))) .stream ⌝ }
+    ensures { λ r. ⌜ r .used ≡ Streams.work stream (now (input .entry)) (length (now (out .entry))) .used ⌝ }
+    ensures { λ r. ⌜ r .written ≡ length (Streams.work stream (now (input .entry)) (length (now (out .entry))) .text) ⌝ }
+    ensures { λ r. ⌜ r .waiting ≡ Streams.work stream (now (input .entry)) (length (now (out .entry))) .waiting ⌝ }
+    ensures { λ r. ⌜ now (out .exit) ≡ written (Streams.work stream (now (input .entry)) (length (now (out .entry))) .text) (now (out .entry)) ⌝ }
+{
+    let mut state = stream.state;
+    let mut skipping = stream.skipping;
+    let mut at = 0;
+    let mut done = 0;
+    loop {
+        let line = line_at(input, at);
+        // No byte 10 is left.
+        if line.len() == input.len() - at {
+            let too_long = skipping | (LONGEST_LINE < line.len());
+            let used = if too_long { input.len() } else { at };
+            return Worked {
+                stream: Stream {
+                    state,
+                    skipping: too_long,
+                },
+                used,
+                written: done,
+                waiting: true,
+            };
+        }
+        if out.len() - done < LONGEST_ANSWER {
+            return Worked {
+                stream: Stream { state, skipping },
+                used: at,
+                written: done,
+                waiting: false,
+            };
+        }
+        let answered = answer_at(state, skipping, line, out, done);
+        state = answered.state;
+        skipping = false;
+        at += line.len() + 1;
+        done += answered.written;
+    }
+}
+
+// The end of the input, with the bytes that are left: an unended last line is answered. `done` is false, and nothing is done, where
+// the out buffer is too short.
+pub fn finish(stream: Stream, left: &[u8], out: &mut [u8]) -> Finished
+    ensures { λ r. ⌜ r .done ≡ hasRoom (now (out .entry)) ⌝ }
+    ensures { λ r. ⌜ r .written ≡ cond (hasRoom (now (out .entry))) (length (Streams.finish stream (now (left .entry)))) 0 ⌝ }
+    ensures { λ r. ⌜ now (out .exit) ≡ cond (hasRoom (now (out .entry))) (written (Streams.finish stream (now (left .entry))) (now (out .entry))) (now (out .entry)) ⌝ }
+{
+    if out.len() < LONGEST_ANSWER {
+        Finished {
+            done: false,
+            written: 0,
+        }
+    } else if stream.skipping | (0 < left.len()) {
+        let written = line::malformed(out);
+        Finished {
+            done: true,
+            written,
+        }
+    } else {
+        Finished {
+            done: true,
+            written: 0,
+        }
+    }
+}
+
+// The bytes from a place on moved to the start of a buffer. Each goes below where it comes from, so none is overwritten before it
+// is moved.
+fn move_to_start(buffer: &mut [u8], from: usize, count: usize)
+    requires { ⌜ from + count ≤ length (now buffer) ⌝ }
+    ensures { λ r. ⌜ now (buffer .exit) ≡ written (take count (drop from (now (buffer .entry)))) (now (buffer .entry)) ⌝ }
+{
+    let mut i = 0;
+    while i < count {
+        buffer[i] = buffer[from + i];
+        i += 1;
+    }
+}
+
+// Moves what is not used up to the start of the buffer, and answers how many bytes that is.
+pub fn keep(buffer: &mut [u8], from: usize, to: usize) -> usize
+    ensures { λ r. ⌜ r ≡ keptLength from to (now (buffer .entry)) ⌝ }
+    ensures { λ r. ⌜ now (buffer .exit) ≡ kept from to (now (buffer .entry)) ⌝ }
+{
+    if to < from {
+        0
+    } else if buffer.len() < to {
+        0
+    } else {
+        let count = to - from;
+        move_to_start(buffer, from, count);
+        count
+    }
+}
