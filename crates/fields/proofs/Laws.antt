@@ -61,3 +61,7 @@ nothing-behind place text h =
     ap (take (length text - length text)) (drop-length text)
     ∙ take-nil (length text - length text)
     ∙ sym (drop-of-length-le text {i = suc place} (omega (arith, h)))
+
+-- The first bytes of a text are all of it where it has no more.
+pub start-all : (count : ℕ) (text : List ℕ) → length text ≤ count → text ≡ take count text
+start-all count text h = sym (take-all count text h)

@@ -1,7 +1,7 @@
 // The splitter of a line's fields and of an address's parts, and the first word of a line.
 ghost use Prim.Native.Nat.{suc};
 ghost use mathlib.Core.Path.{_≡_};
-ghost use lib.ListN.{drop};
+ghost use lib.ListN.{take, drop};
 ghost use Rattle.rules.specs.Bytes.{sameBytes};
 ghost use Rattle.lines.specs.Fields.{firstPart};
 
@@ -28,5 +28,16 @@ pub fn behind(text: &[u8], place: usize) -> &[u8]
         &text[place + 1..]
     } else {
         &text[text.len()..]
+    }
+}
+
+// The first bytes of a text: all of it where it has no more.
+pub fn start(text: &[u8], count: usize) -> &[u8]
+    ensures { λ r. ⌜ now r ≡ take count (now (text .entry)) ⌝ }
+{
+    if count < text.len() {
+        &text[..count]
+    } else {
+        text
     }
 }

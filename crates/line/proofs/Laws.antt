@@ -7,7 +7,6 @@ use mathlib.Core.Option.{Option, none, some, Option·map}
 use lib.Dec.{ltb}
 use native.Mathlib.Omega.{arith}
 use lib.ListN.{length, take, drop, drop-of-length-le}
-use lib.Seq.{length-take-le, take-all}
 use borrow.Author.Tests.{le-leb, lt-leb}
 use Rattle.rules.specs.Answers.{leaves, refused, accepted, Accepted, refusalNumber, slotOf, timeOf, answerReport}
 use Rattle.rules.proofs.AnswersLaws.{accepted-none, accepted-same}
@@ -212,13 +211,6 @@ module _ (s : Interface) (answer : Answer) (after : Interface) where
     unfolding outcomeOf dropOutcome
     drop-gives time slot kept = gives _ [] frame kept (text-silent s _ answer after [] frame kept refl) g
 
--- The first bytes of a buffer: a part, or all of it.
-pub part-length : (count : ℕ) (head : List ℕ) → count < length head → count ≡ length (take count head)
-part-length count head h = sym (length-take-le count head (omega (arith, h)))
-
-pub part-all : (count : ℕ) (head : List ℕ) → length head ≤ count → head ≡ take count head
-part-all count head h = sym (take-all count head h)
-
 -- A command of a line performed.
 module _ (s : Interface) (state : Interface) (n : ℕ) (head old new : List ℕ) (command : Command) where
   pub malformed-performed : command ≡ Command.Malformed → state ≡ s → n ≡ length (refusedText 14) → new ≡ written (refusedText 14) old
@@ -257,5 +249,5 @@ module _ (s : Interface) (line out : List ℕ) where
   no-room short = rw (lt-leb longestAnswer (length out) short) (refl, (refl, refl))
 
   pub with-room : (state : Interface) (n : ℕ) (new : List ℕ) → longestAnswer ≤ length out → Gives (lineAnswer s line) state n out new
-    → Answers-line state n new
+      → Answers-line state n new
   with-room state n new long g = rw (le-leb longestAnswer (length out) long) (g .state-after, (g .counted, g .bytes))

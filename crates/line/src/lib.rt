@@ -12,7 +12,7 @@ ghost use Prim.Native.Nat.{_≤_};
 ghost use mathlib.Core.Path.{_≡_};
 ghost use mathlib.Core.Bool.{cond};
 ghost use mathlib.Core.Option.{none, some};
-ghost use lib.ListN.{length, take};
+ghost use lib.ListN.{length};
 ghost use Rattle.machine.specs.Calls as Calls;
 ghost use Rattle.lines.specs.Forms.{lentBuffer};
 ghost use Rattle.lines.specs.Answers.{longestAnswer, hasRoom, written, refusedText, answerTo, lineAnswer};
@@ -111,17 +111,6 @@ fn drop(state: Interface, time: Time, slot: u64, out: &mut [u8]) -> Answered
     write_answer(engine::drop(state, time, slot), &nothing, out)
 }
 
-// The first bytes of a buffer.
-fn start(head: &[u8], count: usize) -> &[u8]
-    ensures { λ r. ⌜ now r ≡ take count (now (head .entry)) ⌝ }
-{
-    if count < head.len() {
-        &head[..count]
-    } else {
-        head
-    }
-}
-
 // What a command comes to. The bytes of a packet stand at the start of `head`.
 fn perform(state: Interface, command: Command, head: &[u8; 28], out: &mut [u8]) -> Answered
     requires { ⌜ longestAnswer ≤ length (now out) ⌝ }
@@ -140,7 +129,7 @@ fn perform(state: Interface, command: Command, head: &[u8; 28], out: &mut [u8]) 
             draw,
         } => ask(state, time, address, policy, draw, out),
         Command::Tick { time, draw } => tick(state, time, draw, out),
-        Command::Packet { time, count } => packet(state, time, start(head, count), out),
+        Command::Packet { time, count } => packet(state, time, fields::start(head, count), out),
         Command::Drop { time, slot } => drop(state, time, slot, out),
     }
 }

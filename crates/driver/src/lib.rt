@@ -1,0 +1,131 @@
+// The replay from standard input to standard output: a large read, the lines at hand answered, a large write, in turn. What is
+// read and written goes through the proved library; here is the loop alone.
+//
+// A read that fails ends the replay, with the reason on standard error. The answers to all lines that were read whole are out by
+// then; what was read of a line that did not end is not answered, since it may not be all of it. A write that fails ends it too,
+// and no further line is read.
+use libc::STDIN_FILENO;
+use libc::STDOUT_FILENO;
+use lines::Stream;
+
+// Where the replay stands: `held` bytes at the start of the input buffer are not used up, and are to be worked on again unless it
+// is waiting for more. `going` is false once it is over.
+struct Turn {
+    stream: Stream,
+    held: usize,
+    waiting: bool,
+    going: bool,
+}
+
+fn over(stream: Stream) -> Turn {
+    Turn {
+        stream,
+        held: 0,
+        waiting: true,
+        going: false,
+    }
+}
+
+// Writes answers, and says why where it cannot.
+fn write(out: &[u8], count: usize) -> bool {
+    let written = io::write_all(STDOUT_FILENO, fields::start(out, count));
+    if !written {
+        os::fail(b"replay: standard output was not written");
+    }
+    written
+}
+
+// Answers the lines at hand. What is not used up moves to the start of the buffer.
+fn answer(stream: Stream, input: &mut [u8], held: usize, out: &mut [u8]) -> Turn {
+    let worked = stream::work(stream, fields::start(input, held), out);
+    let next = worked.stream;
+    let going = write(out, worked.written);
+    Turn {
+        stream: next,
+        held: stream::keep(input, worked.used, held),
+        waiting: worked.waiting,
+        going,
+    }
+}
+
+// The input ended.
+fn end(stream: Stream, input: &[u8], held: usize, out: &mut [u8]) -> Turn {
+    let finished = stream::finish(stream, fields::start(input, held), out);
+    write(out, finished.written);
+    over(stream)
+}
+
+// What a read brought: how many bytes are held then, whether the input ended, and whether the read failed.
+struct Got {
+    held: usize,
+    ended: bool,
+    failed: bool,
+}
+
+// Reads behind what is held. There is room: no more than 4,096 bytes are held.
+fn read(input: &mut [u8], held: usize) -> Got {
+    if input.len() <= held {
+        return Got {
+            held,
+            ended: false,
+            failed: true,
+        };
+    }
+    let room = &mut input[held..];
+    let got = libc::read(STDIN_FILENO, room);
+    Got {
+        held: held + io::count(got, room),
+        ended: got == 0,
+        failed: got < 0,
+    }
+}
+
+// Reads more, or comes to the end.
+fn read_more(stream: Stream, input: &mut [u8], held: usize, out: &mut [u8]) -> Turn {
+    let got = read(input, held);
+    if got.failed {
+        os::fail(b"replay: standard input was not read");
+        over(stream)
+    } else if got.ended {
+        end(stream, input, held, out)
+    } else {
+        Turn {
+            stream,
+            held: got.held,
+            waiting: false,
+            going: true,
+        }
+    }
+}
+
+// One turn: a read where it waits for more, else the lines at hand.
+fn take_turn(from: Turn, input: &mut [u8; 69_632], out: &mut [u8; 262_144]) -> Turn {
+    let stream = from.stream;
+    if from.waiting {
+        read_more(stream, input, from.held, out)
+    } else {
+        answer(stream, input, from.held, out)
+    }
+}
+
+fn begin() -> Turn {
+    Turn {
+        stream: stream::begin(),
+        held: 0,
+        waiting: true,
+        going: true,
+    }
+}
+
+// The whole replay. The input buffer has room for a read of 65,536 bytes behind the 4,096 that may be held. A proved loop has to
+// end: it counts down from a number that no input uses up.
+pub fn run() {
+    let mut input = [0u8; 69_632];
+    let mut out = [0u8; 262_144];
+    let mut at = begin();
+    let mut turns = u64::MAX;
+    while 0 < turns && at.going {
+        at = take_turn(at, &mut input, &mut out);
+        turns -= 1;
+    }
+}
