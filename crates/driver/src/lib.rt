@@ -1,9 +1,11 @@
-// The replay from standard input to standard output: a large read, the lines at hand answered, a large write, in turn. What is
-// read and written goes through the proved library; here is the loop alone.
+// The replay from standard input to standard output: a large read, the lines at hand answered, a large write, in turn. Lines are
+// read, split and answered by the proved library; this is the loop around it, proved to be safe and to end, and run by the gate.
 //
 // A read that fails ends the replay, with the reason on standard error. The answers to all lines that were read whole are out by
 // then; what was read of a line that did not end is not answered, since it may not be all of it. A write that fails ends it too,
-// and no further line is read.
+// with the reason: no further line is read, and the output may end inside an answer, so that one without its byte 10 counts for
+// nothing. The system ends a program that writes to a pipe which nobody reads any more. A program of this language has no exit
+// status of its own: it is 0 after a failure too.
 use libc::STDIN_FILENO;
 use libc::STDOUT_FILENO;
 use lines::Stream;
@@ -62,7 +64,7 @@ struct Got {
     failed: bool,
 }
 
-// Reads behind what is held. There is room: no more than 4,096 bytes are held.
+// Reads behind what is held. There is always room, since no more than 4,096 bytes are held; the test only makes the part safe.
 fn read(input: &mut [u8], held: usize) -> Got {
     if input.len() <= held {
         return Got {
@@ -122,10 +124,10 @@ fn begin() -> Turn {
 pub fn run() {
     let mut input = [0u8; 69_632];
     let mut out = [0u8; 262_144];
-    let mut at = begin();
+    let mut now = begin();
     let mut turns = u64::MAX;
-    while 0 < turns && at.going {
-        at = take_turn(at, &mut input, &mut out);
+    while 0 < turns && now.going {
+        now = take_turn(now, &mut input, &mut out);
         turns -= 1;
     }
 }

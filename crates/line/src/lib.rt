@@ -57,7 +57,8 @@ fn write_answer(called: Called, frame: &[u8; 28], out: &mut [u8]) -> Answered
     Answered { state, written }
 }
 
-// Each call, and its answer's text. A call that hands out no frame is lent no buffer.
+// Each call, and its answer's text. Fresh, ask and drop are lent no buffer and hand out no frame, so what is shown of one does not
+// matter.
 fn fresh(state: Interface, own: HardwareAddress, out: &mut [u8]) -> Answered
     requires { ⌜ longestAnswer ≤ length (now out) ⌝ }
     ensures { λ r. ⌜ Gives (answerTo state (some (Calls.fresh own))) (r .state) (r .written) (now (out .entry)) (now (out .exit)) ⌝ }
@@ -145,7 +146,7 @@ fn answer_line(state: Interface, line: &[u8], out: &mut [u8]) -> Answered
 }
 
 // Answers a line: its call is made on the state, and the answer's text goes to the start of the out buffer. Where the longest
-// answer would have no room, nothing is done, and nothing is written.
+// answer would have no room, nothing is done and `written` is 0, which it is at no other time: no answer is empty.
 pub fn answer(state: Interface, line: &[u8], out: &mut [u8]) -> Answered
     ensures { λ r. ⌜ r .state ≡ cond (hasRoom (now (out .entry))) (lineAnswer state (now (line .entry)) .state) state ⌝ }
     ensures { λ r. ⌜ r .written ≡ cond (hasRoom (now (out .entry))) (length (lineAnswer state (now (line .entry)) .text)) 0 ⌝ }

@@ -1,4 +1,5 @@
-// A replay whose input arrives in pieces: the lines at hand are answered, and what is left of the input is kept for the next call.
+// A replay whose input arrives in pieces: the lines at hand are answered, and what is left of the input is to come again with the
+// next piece.
 use line::Answered;
 use lines::LONGEST_ANSWER;
 use lines::LONGEST_LINE;
@@ -120,8 +121,8 @@ pub fn work(stream: Stream, input: &[u8], out: &mut [u8]) -> Worked
     }
 }
 
-// The end of the input, with the bytes that are left: an unended last line is answered. `done` is false, and nothing is done, where
-// the out buffer is too short.
+// The end of the input, with the bytes that are left once `work` waits: an unended last line is answered. `done` is false, and
+// nothing is done, where the out buffer is too short.
 pub fn finish(stream: Stream, left: &[u8], out: &mut [u8]) -> Finished
     ensures { λ r. ⌜ r .done ≡ hasRoom (now (out .entry)) ⌝ }
     ensures { λ r. ⌜ r .written ≡ cond (hasRoom (now (out .entry))) (length (Streams.finish stream (now (left .entry)))) 0 ⌝ }
@@ -159,7 +160,8 @@ fn move_to_start(buffer: &mut [u8], from: usize, count: usize)
     }
 }
 
-// Moves what is not used up to the start of the buffer, and answers how many bytes that is.
+// Moves what is not used up to the start of the buffer, and answers how many bytes that is. Where they are no places of the
+// buffer, nothing is moved and the answer is 0.
 pub fn keep(buffer: &mut [u8], from: usize, to: usize) -> usize
     ensures { λ r. ⌜ r ≡ keptLength from to (now (buffer .entry)) ⌝ }
     ensures { λ r. ⌜ now (buffer .exit) ≡ kept from to (now (buffer .entry)) ⌝ }

@@ -4,10 +4,10 @@ use Rattle.driver.proofs.run.Statement.{statement}
 use Rattle.driver.proofs.run.Tie as tie
 
 abbrev Inv-loop : tie.InvT-loop
-Inv-loop input₀ out₀ at₀ turns₀ input out at turns = Unit {0}
+Inv-loop input₀ out₀ now₀ turns₀ input out now turns = Unit {0}
 
 abbrev μ-loop : tie.MeasureT-loop
-μ-loop input₀ out₀ at₀ turns₀ input out at turns = turns
+μ-loop input₀ out₀ now₀ turns₀ input out now turns = turns
 
 pub run-spec : {M : Type 1} → statement M
 run-spec =
