@@ -24,7 +24,7 @@ TWO_128_AND_1 = b'340282366920938463463374607431768211457'
 
 HELD = [
     (b'fresh\t02000000000a', b'ok fresh - - -', 'a new port'),
-    (b'ask\t0\t192.0.2.7\t2\t1000', b'ok taken 0 1000 -', 'the state of this file'),
+    (b'ask\t0\t192.0.2.7\t2\t1000', b'ok taken 0 1000 -', 'the state of this part'),
     (b'tick\t0\t0', b'ok none - 1000 -', 'in the form'),
 ]
 

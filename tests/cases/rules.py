@@ -4,7 +4,7 @@ Refusal 5 is not here: it is given for an out buffer under 28 bytes, and the rep
 either: they are about the board's clock, which no replay line reaches.
 """
 
-from whole import ANNOUNCE_7, PROBE_7, whole_case
+from whole import ANNOUNCE_7, PROBE_7
 
 # Our hardware address is 02000000000a, the other machine's 0200000000bb.
 # 192.0.2.7 is c0000207, 192.0.2.8 c0000208, 192.0.2.9 c0000209, 192.0.2.10 c000020a, 192.0.2.99 c0000263.
@@ -51,24 +51,6 @@ def in_use_7(policy):
         (b'tick\t6600\t0', b'ok announce 0 - ' + ANNOUNCE_7, 'settled'),
     ]
 
-
-BEFORE_FRESH = [
-    (b'ask\t100\t192.0.2.7\t2\t500', b'refused 1', 'the state is all zeros'),
-    (b'tick\t600\t0', b'refused 1', 'the state is all zeros'),
-    (b'packet\t700\t' + THEIR_PROBE_7, b'refused 1', 'the state is all zeros'),
-    (b'drop\t800\t0', b'refused 1', 'the state is all zeros'),
-    (b'tick\t0\t0', b'refused 1', 'time 0 too'),
-    (b'tick\t281474976710656\t0', b'refused 1', '1 before 3'),
-    (b'packet\t0\t', b'refused 1', '1 before 6'),
-    (b'packet\t0\t' + b'00' * 28, b'refused 1', '1 before 7'),
-    (b'ask\t0\t0.0.0.0\t0\t0', b'refused 1', '1 before 8 and 9'),
-    (b'drop\t0\t4', b'refused 1', '1 before 13'),
-    (b'tick\t0', b'refused 14', 'reading 2: no call is made, so 14 and not 1'),
-    (b'', b'refused 14', 'reading 2'),
-    (b'fresh\t000000000000', b'refused 2', 'hardware zero'),
-    (b'fresh\t030000000000', b'refused 2', 'first byte odd'),
-    (b'tick\t0\t0', b'refused 1', 'a refused fresh makes no state'),
-]
 
 HARDWARE = [
     (b'fresh\tfeffffffffff', b'ok fresh - - -', 'first byte even'),
@@ -693,7 +675,7 @@ LATE_ECHO = in_use_7(b'2') + [
 ]
 
 ROWS = (
-    BEFORE_FRESH + whole_case(b' ') + HARDWARE + REFUSED_FRESH
+    HARDWARE + REFUSED_FRESH
     + W1 + W2 + W6 + W7 + W8 + POLICY_1 + W9 + W9_IN_USE + W10 + W11 + W12
     + TIMES_ABOVE + TIMES_BEYOND_32_BITS + TIMES_BELOW + PACKETS_REFUSED + PADDING + POLICIES
     + DROPS + DROPS_IN_EACH_STAGE + HELD + FULL + LOWEST_NUMBER

@@ -1,4 +1,4 @@
-"""Document 01's whole case, byte for byte."""
+"""Document 01's whole case: byte for byte, then with a plain space, which gives the same."""
 
 PROBE_7 = b'000108000604000102000000000a00000000000000000000c0000207'
 ANNOUNCE_7 = b'000108000604000102000000000ac0000207000000000000c0000207'
@@ -18,4 +18,4 @@ def whole_case(gap):
     ]
 
 
-ROWS = whole_case(b'\xc2\xa0')
+ROWS = whole_case(b'\xc2\xa0') + whole_case(b' ')
