@@ -5,6 +5,7 @@ pub mod PartLaws
 pub mod NumberLaws
 pub mod HexLaws
 pub mod AddressLaws
+pub mod ForeignBytes
 pub mod AnswerLaws
 pub mod RecordLaws
 pub mod StreamLaws
