@@ -1,7 +1,7 @@
 -- How the parts of a line make up its call.
 use Prim.Native.Nat.{ℕ, suc, _+_, _<_, _≤_}
 use mathlib.Core.Path.{_≡_, refl, ap, sym, subst, _∙_}
-use mathlib.Core.Bool.{Bool, true, false, cond, _&&_}
+use mathlib.Core.Bool.{Bool, true, false, cond, and-false}
 use mathlib.Core.List.{List, [], _∷_, _++_}
 use mathlib.Core.Option.{Option, none, some, Option·map, map-eq-none-iff}
 use mathlib.Core.Logic.{⊎-elim}
@@ -71,19 +71,15 @@ unfolding callIn
 no-form word fields a b c d e = rw (a, b, c, d, e) refl
 
 -- One field alone makes none.
-neither : (b : Bool) → (b && false) ≡ false
-neither true = refl
-neither false = refl
-
 pub no-fields : (word : List ℕ) → callIn (word ∷ []) ≡ none
 unfolding callIn
 no-fields word =
     rw (
-      neither (sameBytes word freshWord),
-      neither (sameBytes word askWord),
-      neither (sameBytes word tickWord),
-      neither (sameBytes word packetWord),
-      neither (sameBytes word dropWord),
+      and-false (sameBytes word freshWord),
+      and-false (sameBytes word askWord),
+      and-false (sameBytes word tickWord),
+      and-false (sameBytes word packetWord),
+      and-false (sameBytes word dropWord),
     )
     refl
 

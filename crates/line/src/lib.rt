@@ -11,7 +11,7 @@ use rules::Time;
 ghost use Prim.Native.Nat.{_≤_};
 ghost use mathlib.Core.Path.{_≡_};
 ghost use mathlib.Core.Bool.{cond};
-ghost use mathlib.Core.Option.{none, some};
+ghost use mathlib.Core.Option.{some};
 ghost use lib.ListN.{length};
 ghost use Rattle.machine.specs.Calls as Calls;
 ghost use Rattle.lines.specs.Forms.{lentBuffer};
