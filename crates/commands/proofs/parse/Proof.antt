@@ -5,7 +5,7 @@ use Rattle.commands.proofs.parse.Statement.{statement}
 use Rattle.commands.proofs.parse.Tie as tie
 
 returns : tie.Need-returns
-returns c = search too-long
+returns c = too-long _ _ (search needs)
 
 returns-2 : tie.Need-returns-2
 returns-2 c = search word-split
