@@ -87,25 +87,3 @@ pub all-sound : (s : Interface) →
     (own && leb (s .latest .0) lastTime && leb (s .conflicts) 10 && past && sound && once) ≡ isSound s
 unfolding isSound
 all-sound s own o past p sound q once h = rw (o, p, q, h)
-
--- `sound` is what the test of the state answered.
-module _ (s : Interface) (time : Time) (sound : Bool) (told : sound ≡ isSound s) where
-  pub not-sound : not sound ≡ true → some 1 ≡ stateAndTime s time none
-  unfolding stateAndTime
-  not-sound e = rw (← told, e)
-
-  module _ (is : not sound ≡ false) where
-    pub above-range : lastTime < time .0 → some 3 ≡ stateAndTime s time none
-    unfolding stateAndTime
-    above-range h = rw (← told, is, lt-ltb lastTime (time .0) h)
-
-    module _ (within : time .0 ≤ lastTime) where
-      pub below-latest : time .0 < s .latest .0 → some 4 ≡ stateAndTime s time none
-      unfolding stateAndTime
-      below-latest h = rw (← told, is, le-ltb lastTime (time .0) within, lt-ltb (time .0) (s .latest .0) h)
-
-      pub passes : s .latest .0 ≤ time .0 → none ≡ stateAndTime s time none
-      unfolding stateAndTime
-      passes h = rw (← told, is, le-ltb lastTime (time .0) within, le-ltb (time .0) (s .latest .0) h)
-
-pub ruleset admit-ends = (not-sound, above-range, below-latest, passes)

@@ -1,4 +1,4 @@
-// Whether a state is sound, and the refusals that every call on a state begins with.
+// Whether a state is sound.
 use rules::HARDWARE_END;
 use rules::HardwareAddress;
 use rules::Interface;
@@ -9,16 +9,12 @@ use rules::MAX_CONFLICTS;
 use rules::Moment;
 use rules::PROBE_NUM;
 use rules::Record;
-use rules::Refusal;
 use rules::Stage;
 use rules::Time;
 ghost use mathlib.Core.Path.{_≡_};
-ghost use mathlib.Core.Option.{none};
 ghost use lib.ListN.{drop};
 ghost use Rattle.machine.specs.Slots.{all};
 ghost use Rattle.machine.specs.Interface.{isAlone, isOwnHardware, isAllowed, isPolicy, isPast, isNear, isSoundStage, isSoundRecord, holdsNoneTwice, isSound};
-ghost use Rattle.machine.specs.Refusals.{stateAndTime};
-ghost use Rattle.soundness.specs.Parts.{checkOf};
 
 // Whether an own hardware address has 48 bits, isn't zero, and its first byte is even.
 pub fn is_own_hardware(address: HardwareAddress) -> bool
@@ -142,27 +138,4 @@ pub fn is_sound(state: Interface) -> bool
         & is_past(latest, request)
         & are_sound(latest, records)
         & holds_none_twice(records)
-}
-
-// How a call comes through rows of the refusals.
-pub enum Check {
-    Passed,
-    Refused(Refusal),
-}
-
-// The rows 1, 3 and 4.
-pub fn admit(state: Interface, time: Time) -> Check
-    ensures { λ r. ⌜ checkOf r ≡ stateAndTime state time none ⌝ }
-{
-    let latest = state.latest;
-    let sound = is_sound(state);
-    if !sound {
-        Check::Refused(Refusal::StateNotSound)
-    } else if LAST_TIME < time.0 {
-        Check::Refused(Refusal::TimeAboveRange)
-    } else if time.0 < latest.0 {
-        Check::Refused(Refusal::TimeBelowLatest)
-    } else {
-        Check::Passed
-    }
 }

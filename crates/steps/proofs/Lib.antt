@@ -1,4 +1,3 @@
 -- What the functions do, and what the calls need of it.
 pub mod Laws
-pub mod Rows
 pub mod Promises

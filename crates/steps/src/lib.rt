@@ -1,25 +1,22 @@
-// The steps that the calls share: a row of the refusals, a slot read and written, the frame that goes out, the answer.
+// The steps that the calls share: a slot read and written, what a call decides, and the decision carried
+// out. A call decides first and changes the state once, so that the state is not copied at each turn of its way.
 use rules::Answer;
 use rules::Called;
 use rules::Frame;
 use rules::Interface;
 use rules::Ipv4Address;
 use rules::Kind;
+use rules::Moment;
 use rules::Record;
 use rules::Refusal;
 use rules::SlotNumber;
 use rules::Stage;
 use rules::Time;
-use soundness::Check;
 ghost use mathlib.Core.Path.{_≡_};
-ghost use mathlib.Core.Option.{none};
-ghost use Rattle.rules.specs.Answers.{refusalNumber, _if_else_, slotOf};
-ghost use Rattle.rules.specs.Answers as Answers;
-ghost use Rattle.soundness.specs.Parts.{checkOf};
+ghost use Rattle.rules.specs.Answers.{refusalNumber, slotOf, answerReport};
 ghost use Rattle.machine.specs.Slots.{freeRecord, recordAt, putAt};
 ghost use Rattle.machine.specs.Calls as Calls;
-ghost use Rattle.machine.specs.Machine.{acceptedAs};
-ghost use Rattle.steps.specs.Parts.{orElse, frameIn, sentOut, acceptedWith, HandsBack};
+ghost use Rattle.steps.specs.Parts.{frameIn, sentOut, changedBy, answerWith, Decides, Declines, CarriedOut};
 
 // A frame that goes out, or none.
 pub enum Outgoing {
@@ -27,20 +24,26 @@ pub enum Outgoing {
     Request(Frame),
 }
 
-// A row of the refusals, after those that a check stands for: the first that applies counts.
-pub fn row(check: Check, refusal: Refusal, applies: bool) -> Check
-    ensures { λ r. ⌜ checkOf r ≡ orElse (checkOf check) (refusalNumber refusal if applies else none) ⌝ }
-{
-    match check {
-        Check::Refused(_) => check,
-        Check::Passed => {
-            if applies {
-                Check::Refused(refusal)
-            } else {
-                Check::Passed
-            }
-        }
-    }
+// Whether a call is refused, or the kind of what it does.
+pub enum Verdict {
+    Refused(Refusal),
+    Accepted(Kind),
+}
+
+// What becomes of a state: its latest time, its request, its count, and the record in the slot concerned, if there is one.
+pub struct Change {
+    pub latest: Time,
+    pub request: Moment,
+    pub conflicts: u8,
+    pub slot: SlotNumber,
+    pub record: Record,
+}
+
+// What a call comes to, before anything is changed. The slot that it reports is the one that changes.
+pub struct Decision {
+    pub verdict: Verdict,
+    pub change: Change,
+    pub frame: Outgoing,
 }
 
 // A free slot's record.
@@ -83,32 +86,80 @@ pub fn put_at(records: [Record; 4], slot: SlotNumber, new: Record) -> [Record; 4
     }
 }
 
-// The state with another latest time and other records.
-pub fn renewed(state: Interface, time: Time, records: [Record; 4]) -> Interface
-    ensures { λ r. ⌜ r ≡ Calls.renewed state time records ⌝ }
+// Refused: nothing changes and nothing goes out.
+pub fn refused(refusal: Refusal, state: Interface) -> Decision
+    ensures { λ r. ⌜ Declines state (refusalNumber refusal) r ⌝ }
 {
-    let hardware = state.hardware;
+    let latest = state.latest;
     let request = state.request;
-    Interface {
-        hardware,
-        latest: time,
-        request,
-        conflicts: state.conflicts,
-        records,
+    let record = free_record();
+    Decision {
+        verdict: Verdict::Refused(refusal),
+        change: Change {
+            latest,
+            request,
+            conflicts: state.conflicts,
+            slot: SlotNumber::Absent,
+            record,
+        },
+        frame: Outgoing::Nothing,
     }
 }
 
 // Nothing but the latest time changes.
-pub fn nothing(state: Interface, time: Time) -> Called
-    ensures { λ r. ⌜ HandsBack r (Answers.accepted (acceptedAs (Calls.nothing state time))) (Calls.nothing state time .state) ⌝ }
+pub fn nothing(state: Interface, time: Time) -> Decision
+    ensures { λ r. ⌜ Decides state (Calls.nothing state time) r ⌝ }
 {
-    let records = state.records;
-    let new = renewed(state, time, records);
-    accepted(Kind::Nothing, SlotNumber::Absent, new)
+    let request = state.request;
+    let record = free_record();
+    Decision {
+        verdict: Verdict::Accepted(Kind::Nothing),
+        change: Change {
+            latest: time,
+            request,
+            conflicts: state.conflicts,
+            slot: SlotNumber::Absent,
+            record,
+        },
+        frame: Outgoing::Nothing,
+    }
+}
+
+// The state that a change leaves.
+fn changed(state: Interface, change: Change) -> Interface
+    ensures { λ r. ⌜ r ≡ changedBy state change ⌝ }
+{
+    let hardware = state.hardware;
+    let before = state.records;
+    let latest = change.latest;
+    let request = change.request;
+    let slot = change.slot;
+    let record = change.record;
+    let records = put_at(before, slot, record);
+    Interface {
+        hardware,
+        latest,
+        request,
+        conflicts: change.conflicts,
+        records,
+    }
+}
+
+// The answer to a call that leaves these records.
+fn answer(verdict: Verdict, slot: SlotNumber, records: [Record; 4]) -> Answer
+    ensures { λ r. ⌜ answerReport r ≡ answerWith verdict (slotOf slot) records ⌝ }
+{
+    match verdict {
+        Verdict::Refused(refusal) => Answer::Refused(refusal),
+        Verdict::Accepted(kind) => {
+            let next = slots::smallest_deadline(records);
+            Answer::Accepted { kind, slot, next }
+        }
+    }
 }
 
 // Writes the frame that goes out, if there is one.
-pub fn hand_out(frame: Outgoing, out: &mut [u8])
+fn hand_out(frame: Outgoing, out: &mut [u8])
     ensures { λ r. ⌜ now (out .exit) ≡ sentOut (frameIn frame) (now (out .entry)) ⌝ }
 {
     match frame {
@@ -119,20 +170,17 @@ pub fn hand_out(frame: Outgoing, out: &mut [u8])
     }
 }
 
-// A refusal, with the state that was handed in.
-pub fn refused(refusal: Refusal, state: Interface) -> Called
-    ensures { λ r. ⌜ HandsBack r (Answers.refused (refusalNumber refusal)) state ⌝ }
+// Carries a decision out: the frame is written, the state changed, and the answer made.
+pub fn carry_out(state: Interface, decision: Decision, out: &mut [u8]) -> Called
+    ensures { λ r. ⌜ CarriedOut state decision (now (out .entry)) r (now (out .exit)) ⌝ }
 {
-    let answer = Answer::Refused(refusal);
-    Called { answer, state }
-}
-
-// The answer of an accepted call, with the smallest deadline of the state that it leaves.
-pub fn accepted(kind: Kind, slot: SlotNumber, state: Interface) -> Called
-    ensures { λ r. ⌜ HandsBack r (acceptedWith kind (slotOf slot) state) state ⌝ }
-{
-    let records = state.records;
-    let next = slots::smallest_deadline(records);
-    let answer = Answer::Accepted { kind, slot, next };
-    Called { answer, state }
+    let verdict = decision.verdict;
+    let change = decision.change;
+    let frame = decision.frame;
+    let slot = change.slot;
+    hand_out(frame, out);
+    let new = changed(state, change);
+    let records = new.records;
+    let answer = answer(verdict, slot, records);
+    Called { answer, state: new }
 }

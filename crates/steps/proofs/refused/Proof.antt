@@ -1,11 +1,11 @@
--- `steps::refused`: the number, and the state as it was.
+-- `steps::refused`: nothing changes.
 use borrow.Author.Needs.{needs}
-use Rattle.steps.proofs.Laws.{refused-says}
+use mathlib.Core.Path.{refl}
 use Rattle.steps.proofs.refused.Statement.{statement}
 use Rattle.steps.proofs.refused.Tie as tie
 
 returns : tie.Need-returns
-returns c = record { reports = search refused-says; keeps = search needs }
+returns c = record { refuses = λ slot records. refl; keeps = refl; sends = refl }
 
 pub refused-spec : {M : Type 1} → statement M
-refused-spec = tie.close (tie.spec returns)
+refused-spec = tie.close (tie.spec (λ c κs. search needs) returns)

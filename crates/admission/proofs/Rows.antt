@@ -10,7 +10,7 @@ use Rattle.rules.specs.declared.Time.{Time}
 use Rattle.rules.specs.declared.Interface.{Interface}
 use Rattle.machine.specs.Interface.{isSound}
 use Rattle.machine.specs.Refusals.{stateAndTime}
-use Rattle.steps.specs.Parts.{orElse}
+use Rattle.admission.specs.Parts.{firstRows, orElse}
 
 -- A row and what comes after it are one part of the table.
 pub row-joins : (first : Option ℕ) (n : ℕ) (applies : Bool) (others : Option ℕ) →
@@ -31,3 +31,8 @@ module _ (s : Interface) (time : Time) (others : Option ℕ) where
   pub admits : orElse (stateAndTime s time none) others ≡ stateAndTime s time others
   unfolding stateAndTime
   admits = joins (isSound s) (ltb lastTime (time .0)) (ltb (time .0) (s .latest .0))
+
+-- What the first rows give of a state is what the table says of it.
+pub first-rows : (s : Interface) (sound : Bool) → sound ≡ isSound s → (time : Time) → firstRows sound (s .latest) time ≡ stateAndTime s time none
+unfolding stateAndTime
+first-rows s sound e time = rw e

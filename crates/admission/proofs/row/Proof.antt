@@ -1,8 +1,8 @@
--- `steps::row`: refused before, refused here, passed.
+-- `admission::row`: refused before, refused here, passed.
 use borrow.Author.Needs.{needs}
-use Rattle.steps.proofs.Laws.{row-applies}
-use Rattle.steps.proofs.row.Statement.{statement}
-use Rattle.steps.proofs.row.Tie as tie
+use Rattle.admission.proofs.Laws.{row-applies}
+use Rattle.admission.proofs.row.Statement.{statement}
+use Rattle.admission.proofs.row.Tie as tie
 
 returns : tie.Need-returns
 returns c = search needs

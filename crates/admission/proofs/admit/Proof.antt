@@ -1,8 +1,8 @@
--- `soundness::admit`: refusals 1, 3 and 4, or none.
+-- `admission::admit`: refusals 1, 3 and 4, or none.
 use borrow.Author.Needs.{needs}
-use Rattle.soundness.proofs.Laws.{admit-ends}
-use Rattle.soundness.proofs.admit.Statement.{statement}
-use Rattle.soundness.proofs.admit.Tie as tie
+use Rattle.admission.proofs.Laws.{admit-ends}
+use Rattle.admission.proofs.admit.Statement.{statement}
+use Rattle.admission.proofs.admit.Tie as tie
 
 returns : tie.Need-returns
 returns c = search admit-ends
@@ -17,4 +17,4 @@ returns-4 : tie.Need-returns-4
 returns-4 c = search admit-ends
 
 pub admit-spec : {M : Type 1} → statement M
-admit-spec = tie.close (tie.spec (λ c κs. search needs) returns returns-2 returns-3 returns-4)
+admit-spec = tie.close (tie.spec returns returns-2 returns-3 returns-4)
