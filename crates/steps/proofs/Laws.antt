@@ -57,7 +57,7 @@ module _ (verdict : Verdict) (slot : SlotNumber) (records : List Record) where
 pub ruleset answer-ends = (refusal-told, kind-told)
 
 pub change-made : (s : Interface) (change : Change) (records : List Record) →
-    records ≡ putAt (s .records) (slotOf (change .slot)) (change .record) →
+    records ≡ putAt (s .records) (slotOf (change .slot)) (change .held) →
     record {
       hardware = s .hardware;
       latest = change .latest;

@@ -36,7 +36,7 @@ changedBy s change =
       latest = change .latest;
       request = change .request;
       conflicts = change .conflicts;
-      records = putAt (s .records) (slotOf (change .slot)) (change .record);
+      records = putAt (s .records) (slotOf (change .slot)) (change .held);
     }
 
 -- What a verdict reports of a call that leaves these records.

@@ -36,7 +36,7 @@ pub struct Change {
     pub request: Moment,
     pub conflicts: u8,
     pub slot: SlotNumber,
-    pub record: Record,
+    pub held: Record,
 }
 
 // What a call comes to, before anything is changed. The slot that it reports is the one that changes.
@@ -92,7 +92,7 @@ pub fn refused(refusal: Refusal, state: Interface) -> Decision
 {
     let latest = state.latest;
     let request = state.request;
-    let record = free_record();
+    let held = free_record();
     Decision {
         verdict: Verdict::Refused(refusal),
         change: Change {
@@ -100,7 +100,7 @@ pub fn refused(refusal: Refusal, state: Interface) -> Decision
             request,
             conflicts: state.conflicts,
             slot: SlotNumber::Absent,
-            record,
+            held,
         },
         frame: Outgoing::Nothing,
     }
@@ -111,7 +111,7 @@ pub fn nothing(state: Interface, time: Time) -> Decision
     ensures { λ r. ⌜ Decides state (Calls.nothing state time) r ⌝ }
 {
     let request = state.request;
-    let record = free_record();
+    let held = free_record();
     Decision {
         verdict: Verdict::Accepted(Kind::Nothing),
         change: Change {
@@ -119,7 +119,7 @@ pub fn nothing(state: Interface, time: Time) -> Decision
             request,
             conflicts: state.conflicts,
             slot: SlotNumber::Absent,
-            record,
+            held,
         },
         frame: Outgoing::Nothing,
     }
@@ -134,8 +134,8 @@ fn changed(state: Interface, change: Change) -> Interface
     let latest = change.latest;
     let request = change.request;
     let slot = change.slot;
-    let record = change.record;
-    let records = put_at(before, slot, record);
+    let held = change.held;
+    let records = put_at(before, slot, held);
     Interface {
         hardware,
         latest,

@@ -1,7 +1,7 @@
 // Ticks: the slot that is due is served, with one frame.
+use admission::Check;
 use rules::ANNOUNCE_INTERVAL;
 use rules::ANNOUNCE_WAIT;
-use rules::Called;
 use rules::HardwareAddress;
 use rules::Interface;
 use rules::Ipv4Address;
@@ -13,23 +13,22 @@ use rules::Refusal;
 use rules::SlotNumber;
 use rules::Stage;
 use rules::Time;
-use soundness::Check;
+use steps::Change;
+use steps::Decision;
 use steps::Outgoing;
+use steps::Verdict;
 ghost use mathlib.Core.Path.{_≡_};
-ghost use mathlib.Core.Bool.{true};
-ghost use mathlib.Core.Option.{some};
+ghost use mathlib.Core.Option.{none, some};
 ghost use Prim.Native.Nat.{_≤_};
-ghost use lib.ListN.{length};
 ghost use Rattle.rules.specs.Times.{lastTime};
 ghost use Rattle.rules.specs.Frame as Frame;
-ghost use Rattle.machine.specs.Interface.{longestDelay, isSound};
-ghost use Rattle.machine.specs.Refusals.{tickRefusal};
-ghost use Rattle.machine.specs.Calls.{service};
+ghost use Rattle.machine.specs.Interface.{longestDelay};
+ghost use Rattle.machine.specs.Refusals.{stateAndTime, tickRefusal};
+ghost use Rattle.machine.specs.Calls.{service, tickOutcome};
 ghost use Rattle.machine.specs.Calls as Call;
-ghost use Rattle.machine.specs.Machine.{Promised};
-ghost use Rattle.soundness.specs.Parts.{checkOf};
-ghost use Rattle.steps.specs.Parts.{frameIn, Done};
-ghost use Rattle.tick.specs.Parts.{serviceOf, restagedAs};
+ghost use Rattle.admission.specs.Parts.{checkOf};
+ghost use Rattle.steps.specs.Parts.{frameIn, Decides, Decided};
+ghost use Rattle.tick.specs.Parts.{serviceOf};
 
 // What serving a slot does: the kind that is reported, the stage that follows, the frame that goes out.
 struct Service {
@@ -117,51 +116,44 @@ fn served(own: HardwareAddress, time: Time, draw: u32, claim: Record) -> Service
     }
 }
 
-// The state with a slot's claim at another stage.
-fn restaged(state: Interface, time: Time, slot: u64, claim: Record, stage: Stage) -> Interface
-    ensures { λ r. ⌜ r ≡ restagedAs state time slot claim stage ⌝ }
-{
-    let records = state.records;
-    let address = claim.address;
-    let next = Record {
-        address,
-        policy: claim.policy,
-        stage,
-    };
-    let changed = steps::put_at(records, SlotNumber::Slot(slot), next);
-    steps::renewed(state, time, changed)
-}
-
-// Serves a slot of a sound state.
-fn serve(state: Interface, time: Time, draw: u32, slot: u64, out: &mut [u8]) -> Called
-    requires { ⌜ (isSound state ≡ true) × (time .0 ≤ lastTime) × (28 ≤ length (now out)) ⌝ }
-    ensures { λ r. ⌜ Done (Call.serve state time draw (some slot)) (now (out .entry)) r (now (out .exit)) ⌝ }
+// A slot served: its claim goes on to the stage that follows.
+fn serve(state: Interface, time: Time, draw: u32, slot: u64) -> Decision
+    requires { ⌜ time .0 ≤ lastTime ⌝ }
+    ensures { λ r. ⌜ Decides state (Call.serve state time draw (some slot)) r ⌝ }
 {
     let own = state.hardware;
+    let request = state.request;
     let records = state.records;
     let claim = steps::record_at(records, slot);
     let service = served(own, time, draw, claim);
     let kind = service.kind;
     let stage = service.stage;
     let frame = service.frame;
-    let new = restaged(state, time, slot, claim, stage);
-    steps::hand_out(frame, out);
-    steps::accepted(kind, SlotNumber::Slot(slot), new)
+    let address = claim.address;
+    Decision {
+        verdict: Verdict::Accepted(kind),
+        change: Change {
+            latest: time,
+            request,
+            conflicts: state.conflicts,
+            slot: SlotNumber::Slot(slot),
+            held: Record {
+                address,
+                policy: claim.policy,
+                stage,
+            },
+        },
+        frame,
+    }
 }
 
-// The refusal of a tick.
-fn tick_check(state: Interface, time: Time, room: usize) -> Check
-    ensures { λ r. ⌜ checkOf r ≡ tickRefusal state time room ⌝ }
+// Serves the earliest deadline that isn't later than the time. `admitted` has the rows 1, 3 and 4, and `room` is the length of the
+// out buffer.
+pub fn tick(state: Interface, admitted: Check, time: Time, draw: u32, room: usize) -> Decision
+    requires { ⌜ checkOf admitted ≡ stateAndTime state time none ⌝ }
+    ensures { λ r. ⌜ Decided state (tickRefusal state time room) (tickOutcome state time draw) r ⌝ }
 {
-    let check = soundness::admit(state, time);
-    steps::row(check, Refusal::BufferTooShort, room < 28)
-}
-
-// Serves the earliest deadline that isn't later than the time.
-pub fn tick(state: Interface, time: Time, draw: u32, out: &mut [u8]) -> Called
-    ensures { λ r. ⌜ Promised state (Call.tick time draw (now (out .entry))) (r .answer) (r .state) (now (out .exit)) ⌝ }
-{
-    let check = tick_check(state, time, out.len());
+    let check = admission::row(admitted, Refusal::BufferTooShort, room < 28);
     match check {
         Check::Refused(refusal) => steps::refused(refusal, state),
         Check::Passed => {
@@ -169,7 +161,7 @@ pub fn tick(state: Interface, time: Time, draw: u32, out: &mut [u8]) -> Called
             let slot = slots::due_slot(records, time);
             match slot {
                 SlotNumber::Absent => steps::nothing(state, time),
-                SlotNumber::Slot(due) => serve(state, time, draw, due, out),
+                SlotNumber::Slot(due) => serve(state, time, draw, due),
             }
         }
     }

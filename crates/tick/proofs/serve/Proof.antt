@@ -1,4 +1,4 @@
--- `tick::serve`: the frame, the stage and the answer are those of one service.
+-- `tick::serve`: the kind, the stage and the frame are those of one service.
 use borrow.Author.Needs.{needs}
 use Rattle.tick.proofs.Laws.{slot-served}
 use Rattle.tick.proofs.serve.Statement.{statement}
@@ -8,13 +8,4 @@ returns : tie.Need-returns
 returns c = search slot-served
 
 pub serve-spec : {M : Type 1} → statement M
-serve-spec =
-    tie.close
-    (tie.spec
-    (λ c κs. search needs)
-    (λ c κs. search needs)
-    (λ c κs. search needs)
-    (λ c κs. search needs)
-    (λ c κs. search needs)
-    (λ c. search needs)
-    returns)
+serve-spec = tie.close (tie.spec (λ c κs. search needs) (λ c κs. search needs) returns)

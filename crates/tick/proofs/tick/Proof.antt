@@ -1,11 +1,11 @@
 -- `tick::tick`: a refusal, nothing due, or a slot served.
 use borrow.Author.Needs.{needs}
-use Rattle.tick.proofs.Laws.{tick-sound, tick-time, tick-room, tick-ends}
+use Rattle.tick.proofs.Laws.{tick-time, tick-ends}
 use Rattle.tick.proofs.tick.Statement.{statement}
 use Rattle.tick.proofs.tick.Tie as tie
 
 serve-requires : tie.Need-serve-requires
-serve-requires c κs = (search tick-sound, search tick-time, search tick-room)
+serve-requires c κs = search tick-time
 
 returns : tie.Need-returns
 returns c = search tick-ends
@@ -31,5 +31,4 @@ tick-spec =
     serve-requires
     returns
     returns-2
-    (λ c. search needs)
     returns-3)
