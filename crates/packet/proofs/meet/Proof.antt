@@ -22,5 +22,4 @@ meet-spec =
     (λ c κs. search needs)
     (λ c κs. search needs)
     returns
-    (λ c. search needs)
     returns-2)

@@ -1,11 +1,11 @@
 -- `packet::packet`: refusals 1, 3, 4 and 5, refusals 6 and 7, the frame.
 use borrow.Author.Needs.{needs}
-use Rattle.packet.proofs.Laws.{is-sound, is-roomy, packet-ends}
+use Rattle.packet.proofs.Laws.{passed-count, packet-ends}
 use Rattle.packet.proofs.packet.Statement.{statement}
 use Rattle.packet.proofs.packet.Tie as tie
 
 meet-requires : tie.Need-meet-requires
-meet-requires c κs = search (is-sound, is-roomy, needs)
+meet-requires c κs = search passed-count
 
 returns : tie.Need-returns
 returns c = search packet-ends
@@ -22,7 +22,6 @@ packet-spec =
     (tie.spec
     (λ c κs. search needs)
     (λ c κs. search needs)
-    (λ c κs. search needs)
     (λ c. search needs)
     (λ c κs. search needs)
     (λ c. search needs)
@@ -32,5 +31,4 @@ packet-spec =
     meet-requires
     returns
     returns-2
-    (λ c. search needs)
     returns-3)
