@@ -3,12 +3,11 @@ use Prim.Native.Nat.{ℕ, _+_, _≤_}
 use mathlib.Core.Path.{_≡_, refl, sym, ap, _∙_}
 use mathlib.Core.Logic.{_≢_}
 use mathlib.Core.Bool.{Bool, true, false, not}
-use mathlib.Core.List.{List, []}
 use mathlib.Core.Option.{Option, none}
 use lib.Dec.{leb}
 use borrow.Author.Tests.{eq-eqb, ne-eqb, leb-true}
 use Rattle.rules.specs.Times.{lastTime}
-use Rattle.rules.specs.Answers.{refusalNumber, _if_else_, refused, slotOf}
+use Rattle.rules.specs.Answers.{refusalNumber, _if_else_, slotOf}
 use Rattle.rules.specs.declared.Ipv4Address.{Ipv4Address}
 use Rattle.rules.specs.declared.Time.{Time}
 use Rattle.rules.specs.declared.Moment.the-variants.{At}
@@ -18,21 +17,22 @@ use Rattle.rules.specs.declared.Record.{Record}
 use Rattle.rules.specs.declared.Interface.{Interface}
 use Rattle.rules.specs.declared.Refusal.{Refusal}
 use Rattle.rules.specs.declared.Kind.the-variants.{Taken}
-use Rattle.rules.specs.declared.Called.{Called}
 use Rattle.rules.proofs.BytesLaws.{and-both}
 use Rattle.machine.specs.Timing.{wait, isWithin}
-use Rattle.machine.specs.Slots.{putAt, lowest, isNone}
+use Rattle.machine.specs.Slots.{lowest, isNone}
 use Rattle.machine.specs.Interface.{isAllowed, isPolicy, isFree, isHeld}
 use Rattle.machine.specs.Refusals.{stateAndTime, isTooSoon, askRefusal}
-use Rattle.machine.specs.Calls.{ask, askOutcome, newClaim}
-use Rattle.machine.specs.Machine.{refusalOf, outcomeOf, Promised}
+use Rattle.machine.specs.Calls.{askOutcome, newClaim}
 use Rattle.machine.proofs.Acceptance.{AskAccepted, ask-accepted}
-use Rattle.soundness.specs.declared.Check.{Check}
-use Rattle.soundness.specs.declared.Check.the-variants.{Passed, Refused}
-use Rattle.soundness.specs.Parts.{checkOf}
-use Rattle.steps.specs.Parts.{orElse, acceptedWith, HandsBack}
-use Rattle.steps.proofs.Rows.{row-joins, admits}
-use Rattle.steps.proofs.Promises.{check-refuses, check-accepts}
+use Rattle.admission.specs.declared.Check.{Check}
+use Rattle.admission.specs.declared.Check.the-variants.{Passed, Refused}
+use Rattle.admission.specs.Parts.{checkOf, orElse}
+use Rattle.admission.proofs.Rows.{row-joins, admits}
+use Rattle.steps.specs.declared.Outgoing.the-variants.{Nothing}
+use Rattle.steps.specs.declared.Verdict.the-variants.{Accepted}
+use Rattle.steps.specs.declared.Decision.{Decision}
+use Rattle.steps.specs.Parts.{Declines, Decided}
+use Rattle.steps.proofs.Promises.{declined, decided}
 
 pub claim-made : (time : Time) (address : Ipv4Address) (policy draw ms : ℕ) → ms ≡ wait draw →
     record { address = address; policy = policy; stage = Probing 0 (record { 0 = time .0 + ms }) } ≡ newClaim time address policy draw
@@ -88,22 +88,23 @@ module _ (s : Interface) (time : Time) (address : Ipv4Address) (policy : ℕ) wh
       pub ask-policy : policy ≤ 3
       ask-policy = leb-true policy 3 (and-both (leb 1 policy) (leb policy 3) (facts .known) .1)
 
-    module _ (draw : ℕ) (r : Called) where
-      pub ask-refused : (refusal : Refusal) → check ≡ Refused refusal → HandsBack r (refused (refusalNumber refusal)) s →
-          Promised s (ask time address policy draw) (r .answer) (r .state) []
-      unfolding refusalOf
-      ask-refused = check-refuses s (ask time address policy draw) r check told
+    module _ (draw : ℕ) where
+      pub ask-refused : (d : Decision) (refusal : Refusal) → check ≡ Refused refusal → Declines s (refusalNumber refusal) d →
+          Decided s (askRefusal s time address policy) (askOutcome s time address policy draw) d
+      ask-refused d = declined s (askOutcome s time address policy draw) d (askRefusal s time address policy) check told
 
-      pub ask-takes : check ≡ Passed →
-          (slot : SlotNumber) → slotOf slot ≡ lowest isFree (s .records) →
+      pub ask-takes : check ≡ Passed → (slot : SlotNumber) → slotOf slot ≡ lowest isFree (s .records) →
           (claim : Record) → claim ≡ newClaim time address policy draw →
-          (records : List Record) → records ≡ putAt (s .records) (slotOf slot) claim →
-          (new : Interface) → HandsBack r (acceptedWith Taken (slotOf slot) new) new →
-          new ≡ record { hardware = s .hardware; latest = time; request = At time; conflicts = s .conflicts; records = records } →
-          Promised s (ask time address policy draw) (r .answer) (r .state) []
-      unfolding refusalOf outcomeOf askOutcome
-      ask-takes e slot l claim c records p new back n =
-          check-accepts s (ask time address policy draw) r check told e (rw (n, p, c, l) at back)
+          Decided s (askRefusal s time address policy) (askOutcome s time address policy draw)
+          (record {
+            verdict = Accepted Taken;
+            change = record { latest = time; request = At time; conflicts = s .conflicts; slot = slot; held = claim };
+            frame = Nothing;
+          })
+      unfolding askOutcome
+      ask-takes e slot l claim c =
+          decided s (askOutcome s time address policy draw) _ (askRefusal s time address policy) check told e
+          (record { accepts = refl; concerns = l; changes = rw (l, c); sends = refl })
 
 pub ruleset soon-ends = (soon-limited, soon-unlimited)
 

@@ -1,6 +1,5 @@
 // Asking for an address: the refusals in the table's order, then the lowest free slot.
-
-use rules::Called;
+use admission::Check;
 use rules::Interface;
 use rules::Ipv4Address;
 use rules::Kind;
@@ -12,17 +11,21 @@ use rules::Refusal;
 use rules::SlotNumber;
 use rules::Stage;
 use rules::Time;
-use soundness::Check;
+use steps::Change;
+use steps::Decision;
+use steps::Outgoing;
+use steps::Verdict;
 ghost use mathlib.Core.Path.{_≡_};
-ghost use mathlib.Core.List.{[]};
+ghost use mathlib.Core.Option.{none};
 ghost use Prim.Native.Nat.{_≤_};
 ghost use Rattle.rules.specs.Times.{lastTime};
 ghost use Rattle.rules.specs.Answers.{slotOf};
 ghost use Rattle.machine.specs.Slots.{isNone};
-ghost use Rattle.machine.specs.Refusals.{isTooSoon, askRefusal};
+ghost use Rattle.machine.specs.Refusals.{stateAndTime, isTooSoon, askRefusal};
+ghost use Rattle.machine.specs.Calls.{askOutcome};
 ghost use Rattle.machine.specs.Calls as Call;
-ghost use Rattle.machine.specs.Machine.{Promised};
-ghost use Rattle.soundness.specs.Parts.{checkOf};
+ghost use Rattle.admission.specs.Parts.{checkOf};
+ghost use Rattle.steps.specs.Parts.{Decided};
 
 // Whether there were ten conflicts and less than 60,000 ms ago a request.
 fn is_too_soon(state: Interface, time: Time) -> bool
@@ -46,8 +49,9 @@ fn is_absent(slot: SlotNumber) -> bool
     }
 }
 
-// The refusal of an ask.
-fn ask_check(state: Interface, time: Time, address: Ipv4Address, policy: u64) -> Check
+// The refusal of an ask. `admitted` has the rows 1, 3 and 4.
+fn ask_check(state: Interface, admitted: Check, time: Time, address: Ipv4Address, policy: u64) -> Check
+    requires { ⌜ checkOf admitted ≡ stateAndTime state time none ⌝ }
     ensures { λ r. ⌜ checkOf r ≡ askRefusal state time address policy ⌝ }
 {
     let records = state.records;
@@ -57,12 +61,11 @@ fn ask_check(state: Interface, time: Time, address: Ipv4Address, policy: u64) ->
     let free = slots::free_slot(records);
     let full = is_absent(free);
     let soon = is_too_soon(state, time);
-    let check = soundness::admit(state, time);
-    let check = steps::row(check, Refusal::AddressNotAllowed, !allowed);
-    let check = steps::row(check, Refusal::PolicyUnknown, !known);
-    let check = steps::row(check, Refusal::AddressHeld, held);
-    let check = steps::row(check, Refusal::NoSlotFree, full);
-    steps::row(check, Refusal::TooManyRequests, soon)
+    let check = admission::row(admitted, Refusal::AddressNotAllowed, !allowed);
+    let check = admission::row(check, Refusal::PolicyUnknown, !known);
+    let check = admission::row(check, Refusal::AddressHeld, held);
+    let check = admission::row(check, Refusal::NoSlotFree, full);
+    admission::row(check, Refusal::TooManyRequests, soon)
 }
 
 // The record of a new claim, with no probe sent.
@@ -78,27 +81,29 @@ fn new_claim(time: Time, address: Ipv4Address, policy: u64, draw: u32) -> Record
     }
 }
 
-// Asks for an address: its claim takes the lowest free slot.
-pub fn ask(state: Interface, time: Time, address: Ipv4Address, policy: u64, draw: u32) -> Called
-    ensures { λ r. ⌜ Promised state (Call.ask time address policy draw) (r .answer) (r .state) [] ⌝ }
+// Asks for an address: its claim takes the lowest free slot. `admitted` has the rows 1, 3 and 4.
+pub fn ask(state: Interface, admitted: Check, time: Time, address: Ipv4Address, policy: u64, draw: u32) -> Decision
+    requires { ⌜ checkOf admitted ≡ stateAndTime state time none ⌝ }
+    ensures { λ r. ⌜ Decided state (askRefusal state time address policy) (askOutcome state time address policy draw) r ⌝ }
 {
-    let check = ask_check(state, time, address, policy);
+    let check = ask_check(state, admitted, time, address, policy);
     match check {
         Check::Refused(refusal) => steps::refused(refusal, state),
         Check::Passed => {
             let records = state.records;
             let slot = slots::free_slot(records);
             let claim = new_claim(time, address, policy, draw);
-            let taken = steps::put_at(records, slot, claim);
-            let hardware = state.hardware;
-            let new = Interface {
-                hardware,
-                latest: time,
-                request: Moment::At(time),
-                conflicts: state.conflicts,
-                records: taken,
-            };
-            steps::accepted(Kind::Taken, slot, new)
+            Decision {
+                verdict: Verdict::Accepted(Kind::Taken),
+                change: Change {
+                    latest: time,
+                    request: Moment::At(time),
+                    conflicts: state.conflicts,
+                    slot,
+                    held: claim,
+                },
+                frame: Outgoing::Nothing,
+            }
         }
     }
 }

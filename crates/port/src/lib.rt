@@ -1,4 +1,6 @@
 // A port's state, made anew, and a slot of it freed.
+use admission::Check;
+use rules::Answer;
 use rules::Called;
 use rules::HardwareAddress;
 use rules::Interface;
@@ -8,18 +10,23 @@ use rules::Record;
 use rules::Refusal;
 use rules::SlotNumber;
 use rules::Time;
-use soundness::Check;
+use steps::Change;
+use steps::Decision;
+use steps::Outgoing;
+use steps::Verdict;
 ghost use mathlib.Core.Path.{_≡_};
 ghost use mathlib.Core.Bool.{_||_};
 ghost use mathlib.Core.List.{[]};
+ghost use mathlib.Core.Option.{none};
 ghost use lib.Dec.{ltb};
 ghost use Rattle.machine.specs.Slots.{recordAt};
 ghost use Rattle.machine.specs.Interface.{isFree};
-ghost use Rattle.machine.specs.Refusals.{dropRefusal};
-ghost use Rattle.machine.specs.Calls.{freshOutcome};
+ghost use Rattle.machine.specs.Refusals.{stateAndTime, dropRefusal};
+ghost use Rattle.machine.specs.Calls.{freshOutcome, dropOutcome};
 ghost use Rattle.machine.specs.Calls as Call;
 ghost use Rattle.machine.specs.Machine.{Promised};
-ghost use Rattle.soundness.specs.Parts.{checkOf};
+ghost use Rattle.admission.specs.Parts.{checkOf};
+ghost use Rattle.steps.specs.Parts.{Decided};
 
 // A new interface: time 0, count 0, no request, four free slots.
 fn new_interface(hardware: HardwareAddress) -> Interface
@@ -35,15 +42,25 @@ fn new_interface(hardware: HardwareAddress) -> Interface
     }
 }
 
-// Makes a new interface, in place of the state handed in.
+// Makes a new interface, in place of the state handed in. No slot of it has a deadline.
 pub fn fresh(state: Interface, hardware: HardwareAddress) -> Called
     ensures { λ r. ⌜ Promised state (Call.fresh hardware) (r .answer) (r .state) [] ⌝ }
 {
     if soundness::is_own_hardware(hardware) {
         let new = new_interface(hardware);
-        steps::accepted(Kind::Fresh, SlotNumber::Absent, new)
+        Called {
+            answer: Answer::Accepted {
+                kind: Kind::Fresh,
+                slot: SlotNumber::Absent,
+                next: Moment::Never,
+            },
+            state: new,
+        }
     } else {
-        steps::refused(Refusal::HardwareNotAllowed, state)
+        Called {
+            answer: Answer::Refused(Refusal::HardwareNotAllowed),
+            state,
+        }
     }
 }
 
@@ -56,29 +73,30 @@ fn is_vacant(records: [Record; 4], slot: u64) -> bool
     slots::is_free(stage)
 }
 
-// The refusal of a drop.
-fn drop_check(state: Interface, time: Time, slot: u64) -> Check
-    ensures { λ r. ⌜ checkOf r ≡ dropRefusal state time slot ⌝ }
+// Frees a slot. `admitted` has the rows 1, 3 and 4.
+pub fn drop(state: Interface, admitted: Check, time: Time, slot: u64) -> Decision
+    requires { ⌜ checkOf admitted ≡ stateAndTime state time none ⌝ }
+    ensures { λ r. ⌜ Decided state (dropRefusal state time slot) (dropOutcome state time slot) r ⌝ }
 {
+    let request = state.request;
     let records = state.records;
-    let check = soundness::admit(state, time);
     let vacant = is_vacant(records, slot);
-    steps::row(check, Refusal::SlotNotHeld, vacant)
-}
-
-// Frees a slot.
-pub fn drop(state: Interface, time: Time, slot: u64) -> Called
-    ensures { λ r. ⌜ Promised state (Call.drop time slot) (r .answer) (r .state) [] ⌝ }
-{
-    let check = drop_check(state, time, slot);
+    let check = admission::row(admitted, Refusal::SlotNotHeld, vacant);
     match check {
         Check::Refused(refusal) => steps::refused(refusal, state),
         Check::Passed => {
-            let records = state.records;
             let free = steps::free_record();
-            let freed = steps::put_at(records, SlotNumber::Slot(slot), free);
-            let new = steps::renewed(state, time, freed);
-            steps::accepted(Kind::Dropped, SlotNumber::Slot(slot), new)
+            Decision {
+                verdict: Verdict::Accepted(Kind::Dropped),
+                change: Change {
+                    latest: time,
+                    request,
+                    conflicts: state.conflicts,
+                    slot: SlotNumber::Slot(slot),
+                    held: free,
+                },
+                frame: Outgoing::Nothing,
+            }
         }
     }
 }

@@ -11,12 +11,4 @@ returns-2 : tie.Need-returns-2
 returns-2 c = search fresh-ends
 
 pub fresh-spec : {M : Type 1} → statement M
-fresh-spec =
-    tie.close
-    (tie.spec
-    (λ c κs. search needs)
-    (λ c κs. search needs)
-    (λ c κs. search needs)
-    (λ c κs. search needs)
-    returns
-    returns-2)
+fresh-spec = tie.close (tie.spec (λ c κs. search needs) (λ c κs. search needs) returns returns-2)
