@@ -1,0 +1,2 @@
+-- A decision carried out is the call's promise.
+pub mod Laws
