@@ -25,6 +25,7 @@ use Rattle.rules.specs.declared.Stage.the-variants.{Free, Probing, Announced, S
 use Rattle.rules.specs.declared.Response.{Response}
 use Rattle.rules.specs.declared.Response.the-variants.{Lose, Defend, Keep}
 use Rattle.rules.specs.declared.Interface.{Interface}
+use Rattle.rules.specs.declared.Called.{Called}
 use Rattle.rules.specs.declared.Answer.{Answer}
 use Rattle.rules.specs.declared.Answer.the-variants as Answer
 use Rattle.machine.specs.Timing.{rfc5227}
@@ -33,7 +34,7 @@ use Rattle.machine.specs.Deadlines.{dueSlot}
 use Rattle.machine.specs.Conflicts.{isConflict, response, responseKind, defence}
 use Rattle.machine.specs.Calls as Calls
 use Rattle.machine.specs.Calls.{Call, Outcome, Service, service, serviceAt, freshOutcome, askOutcome, tickOutcome, packetOutcome, dropOutcome, serve, meet}
-use Rattle.machine.specs.Machine.{Promised, outcomeOf, resultOf, refusalOf, lent, handedOut, acceptedAs}
+use Rattle.machine.specs.Machine.{Promised, outcomeOf, resultOf, refusalOf, handedOut, acceptedAs}
 use Rattle.machine.proofs.PacketHead.{outcome-head, result-head}
 use Rattle.commands.specs.Parts.{headed, commandCall, Makes}
 use Rattle.commands.specs.declared.Command.{Command}
@@ -42,7 +43,12 @@ use Rattle.lines.specs.Forms.{lentBuffer, callOf}
 use Rattle.lines.specs.Numbers.{hexText}
 use Rattle.lines.specs.Answers.{dash, written, frameText, refusedText, acceptedText, reportText, answerTo, lineAnswer, longestAnswer, hasRoom}
 use Rattle.answers.specs.Parts.{sends, shown, acceptedWith}
-use Rattle.line.specs.Parts.{answerText, Gives}
+use Rattle.engine.specs.declared.Call as Engine
+use Rattle.engine.specs.declared.Call.the-variants as Made
+use Rattle.engine.specs.Parts.{callWith, Performed}
+use Rattle.line.specs.declared.Plan.{Plan}
+use Rattle.line.specs.declared.Plan.the-variants as Plan
+use Rattle.line.specs.Parts.{answerText, Gives, plannedCall, Plans}
 
 -- Whether there is a frame.
 isSent : Option Frame → Bool
@@ -123,22 +129,19 @@ module _ (s : Interface) (call : Call) where
   promised-text (Answer.Accepted kind slot next) frame e shows = accepted-text _ frame e shows
 
   -- With 28 bytes lent, and of a call that hands out nothing.
-  pub text-lent : (answer : Answer) (after : Interface) (out : List ℕ) → Promised s call answer after out → length (lent call) ≡ 28
-      → answerText answer out ≡ answerTo s (some call) .text
-  unfolding resultOf
-  text-lent answer after out kept full =
-      promised-text answer out (kept .answered)
+  text-lent : (r : Called) (left : List ℕ) → Performed s call lentBuffer r left → answerText (r .answer) left ≡ answerTo s (some call) .text
+  text-lent r left kept =
+      promised-text (r .answer) left (kept .answered)
       (λ accepts.
       ap (shown (outcomeOf s call .kind))
-      (kept .written ∙ ap (λ refusal. leaves refusal (lent call) (handedOut (outcomeOf s call .frame) (lent call))) accepts)
-      ∙ frame-shown (outcomeOf s call .kind) (outcomeOf s call .frame) (lent call) full (call-sends s call))
+      (kept .written ∙ ap (λ refusal. leaves refusal lentBuffer (handedOut (outcomeOf s call .frame) lentBuffer)) accepts)
+      ∙ frame-shown (outcomeOf s call .kind) (outcomeOf s call .frame) lentBuffer refl (call-sends s call))
 
-  pub text-silent : (answer : Answer) (after : Interface) (out frame : List ℕ) → Promised s call answer after out
-      → outcomeOf s call .frame ≡ none
+  text-silent : (answer : Answer) (frame : List ℕ) → answerReport answer ≡ resultOf s call .report → outcomeOf s call .frame ≡ none
       → answerText answer frame ≡ answerTo s (some call) .text
   unfolding isSent
-  text-silent answer after out frame kept silent =
-      promised-text answer frame (kept .answered)
+  text-silent answer frame told silent =
+      promised-text answer frame told
       (λ accepts.
       ap (λ t. cond t (hexText frame) dash) (call-sends s call ∙ ap isSent silent) ∙ ap frameText (sym silent))
 
@@ -176,59 +179,75 @@ module _ (answer : Answer) (frame : List ℕ) where
     unfolding answerText
     accepted-bytes old new h = h ∙ ap (λ a. written (answerText a frame) old) (sym e)
 
--- A call made and its answer written: with a buffer lent, and of a call that hands out nothing.
-module _ (s : Interface) (answer : Answer) (after : Interface) where
-  gives : (call : Call) (out frame : List ℕ) → Promised s call answer after out → answerText answer frame ≡ answerTo s (some call) .text
-      → {state : Interface} {n : ℕ} {old new : List ℕ}
-      → Gives (record { text = answerText answer frame; state = after }) state n old new → Gives (answerTo s (some call)) state n old new
-  gives call out frame kept told {old = old} g =
-      record {
-        state-after = g .state-after ∙ kept .handedBack;
-        counted = g .counted ∙ ap length told;
-        bytes = g .bytes ∙ ap (λ text. written text old) told;
-      }
+-- A call made and its answer written.
+module _ (s : Interface) (r : Called) (frame : List ℕ) (n : ℕ) (old new : List ℕ)
+    (counted : n ≡ length (answerText (r .answer) frame)) (put : new ≡ written (answerText (r .answer) frame) old) where
+  gives : (call : Call) → r .state ≡ resultOf s call .state → answerText (r .answer) frame ≡ answerTo s (some call) .text
+      → Gives (answerTo s (some call)) (r .state) n old new
+  gives call kept told =
+      record { state-after = kept; counted = counted ∙ ap length told; bytes = put ∙ ap (λ text. written text old) told }
 
-  module _ {state : Interface} {n : ℕ} {old new : List ℕ} (frame : List ℕ) (g : Gives (record { text = answerText answer frame; state = after }) state n old new) where
-    pub tick-gives : (time : Time) (draw : ℕ) → Promised s (Calls.tick time draw lentBuffer) answer after frame
-        → Gives (answerTo s (some (Calls.tick time draw lentBuffer))) state n old new
-    tick-gives time draw kept = gives _ frame frame kept (text-lent s _ answer after frame kept refl) g
+  pub fresh-gives : (own : HardwareAddress) → Promised s (Calls.fresh own) (r .answer) (r .state) []
+      → Gives (answerTo s (some (Calls.fresh own))) (r .state) n old new
+  unfolding outcomeOf freshOutcome
+  fresh-gives own kept =
+      gives (Calls.fresh own) (kept .handedBack) (text-silent s (Calls.fresh own) (r .answer) frame (kept .answered) refl)
 
-    pub packet-gives : (time : Time) (bytes : List ℕ) → Promised s (Calls.packet time bytes lentBuffer) answer after frame
-        → Gives (answerTo s (some (Calls.packet time bytes lentBuffer))) state n old new
-    packet-gives time bytes kept = gives _ frame frame kept (text-lent s _ answer after frame kept refl) g
+  pub call-gives : (time : Time) (call : Engine.Call) (bytes : List ℕ)
+      → Performed s (callWith time call bytes lentBuffer) lentBuffer r frame
+      → Gives (answerTo s (some (callWith time call bytes lentBuffer))) (r .state) n old new
+  call-gives time call bytes kept =
+      gives (callWith time call bytes lentBuffer) (kept .handedBack) (text-lent s (callWith time call bytes lentBuffer) r frame kept)
 
-    pub fresh-gives : (own : HardwareAddress) → Promised s (Calls.fresh own) answer after [] → Gives (answerTo s (some (Calls.fresh own))) state n old new
-    unfolding outcomeOf freshOutcome
-    fresh-gives own kept = gives _ [] frame kept (text-silent s _ answer after [] frame kept refl) g
+-- Each command's plan.
+module _ (command : Command) where
+  planned : (plan : Plan) (same : Command) → command ≡ same → ((head : List ℕ) → plannedCall plan head ≡ commandCall same head)
+      → Plans plan command
+  planned plan same e makes = subst (Plans plan) (sym e) (record { makes = makes })
 
-    pub ask-gives : (time : Time) (wanted : Ipv4Address) (policy draw : ℕ) → Promised s (Calls.ask time wanted policy draw) answer after []
-        → Gives (answerTo s (some (Calls.ask time wanted policy draw))) state n old new
-    unfolding outcomeOf askOutcome
-    ask-gives time wanted policy draw kept = gives _ [] frame kept (text-silent s _ answer after [] frame kept refl) g
+  pub malformed-planned : command ≡ Command.Malformed → Plans Plan.Malformed command
+  malformed-planned e = planned Plan.Malformed Command.Malformed e (λ head. refl)
 
-    pub drop-gives : (time : Time) (slot : ℕ) → Promised s (Calls.drop time slot) answer after []
-        → Gives (answerTo s (some (Calls.drop time slot))) state n old new
-    unfolding outcomeOf dropOutcome
-    drop-gives time slot kept = gives _ [] frame kept (text-silent s _ answer after [] frame kept refl) g
+  pub fresh-planned : (own : HardwareAddress) → command ≡ Command.Fresh own → Plans (Plan.Fresh own) command
+  fresh-planned own e = planned (Plan.Fresh own) (Command.Fresh own) e (λ head. refl)
 
--- A command of a line performed.
+  pub ask-planned : (time : Time) (wanted : Ipv4Address) (policy draw : ℕ) → command ≡ Command.Ask time wanted policy draw
+      → Plans (Plan.Call time (Made.Ask wanted policy draw) 0) command
+  ask-planned time wanted policy draw e = planned _ (Command.Ask time wanted policy draw) e (λ head. refl)
+
+  pub tick-planned : (time : Time) (draw : ℕ) → command ≡ Command.Tick time draw → Plans (Plan.Call time (Made.Tick draw) 0) command
+  tick-planned time draw e = planned _ (Command.Tick time draw) e (λ head. refl)
+
+  pub packet-planned : (time : Time) (count : ℕ) → command ≡ Command.Packet time count → Plans (Plan.Call time Made.Packet count) command
+  packet-planned time count e = planned _ (Command.Packet time count) e (λ head. refl)
+
+  pub drop-planned : (time : Time) (slot : ℕ) → command ≡ Command.Drop time slot → Plans (Plan.Call time (Made.Drop slot) 0) command
+  drop-planned time slot e = planned _ (Command.Drop time slot) e (λ head. refl)
+
+pub ruleset plan-ends = (malformed-planned, fresh-planned, ask-planned, tick-planned, packet-planned, drop-planned)
+
+-- A command of a line carried out.
 module _ (s : Interface) (state : Interface) (n : ℕ) (head old new : List ℕ) (command : Command) where
-  pub malformed-performed : command ≡ Command.Malformed → state ≡ s → n ≡ length (refusedText 14) → new ≡ written (refusedText 14) old
-      → Gives (answerTo s (commandCall command head)) state n old new
-  malformed-performed is e h k =
-      subst (λ c. Gives (answerTo s (commandCall c head)) state n old new) (sym is)
-      (record { state-after = e; counted = h; bytes = k })
+  module _ (plan : Plan) (made : Plans plan command) where
+    carried : (same : Plan) → plan ≡ same → Gives (answerTo s (plannedCall same head)) state n old new
+        → Gives (answerTo s (commandCall command head)) state n old new
+    carried same is =
+        subst (λ call. Gives (answerTo s call) state n old new) (ap (λ p. plannedCall p head) (sym is) ∙ made .makes head)
 
-  pub performed : (same : Command) → command ≡ same → Gives (answerTo s (commandCall same head)) state n old new
-      → Gives (answerTo s (commandCall command head)) state n old new
-  performed same is = subst (λ c. Gives (answerTo s (commandCall c head)) state n old new) (sym is)
+    pub malformed-carried : plan ≡ Plan.Malformed → state ≡ s → n ≡ length (refusedText 14) → new ≡ written (refusedText 14) old
+        → Gives (answerTo s (commandCall command head)) state n old new
+    malformed-carried is e h k = carried Plan.Malformed is (record { state-after = e; counted = h; bytes = k })
 
-  pub packet-performed : (time : Time) (count : ℕ) (bytes : List ℕ) → command ≡ Command.Packet time count → bytes ≡ take count head
-      → Gives (answerTo s (some (Calls.packet time bytes lentBuffer))) state n old new
-      → Gives (answerTo s (commandCall command head)) state n old new
-  packet-performed time count bytes is cut g =
-      performed (Command.Packet time count) is
-      (subst (λ b. Gives (answerTo s (some (Calls.packet time b lentBuffer))) state n old new) cut g)
+    pub fresh-carried : (own : HardwareAddress) → plan ≡ Plan.Fresh own → Gives (answerTo s (some (Calls.fresh own))) state n old new
+        → Gives (answerTo s (commandCall command head)) state n old new
+    fresh-carried own is = carried (Plan.Fresh own) is
+
+    pub call-carried : (time : Time) (call : Engine.Call) (count : ℕ) (bytes : List ℕ) → plan ≡ Plan.Call time call count → bytes ≡ take count head
+        → Gives (answerTo s (some (callWith time call bytes lentBuffer))) state n old new
+        → Gives (answerTo s (commandCall command head)) state n old new
+    call-carried time call count bytes is cut g =
+        carried (Plan.Call time call count) is
+        (subst (λ b. Gives (answerTo s (some (callWith time call b lentBuffer))) state n old new) cut g)
 
   -- What a line's command gives is what the line comes to.
   pub line-gives : (line : List ℕ) → Makes command head (callOf line)
@@ -236,6 +255,8 @@ module _ (s : Interface) (state : Interface) (n : ℕ) (head old new : List ℕ)
   unfolding lineAnswer
   line-gives line made =
       subst (λ a. Gives a state n old new) (ap (answerTo s) (made .makes) ∙ headed-answer s (callOf line))
+
+pub ruleset carried-ends = (malformed-carried, fresh-carried, call-carried)
 
 -- Room for the longest answer, or not.
 module _ (s : Interface) (line out : List ℕ) where

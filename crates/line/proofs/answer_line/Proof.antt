@@ -1,4 +1,4 @@
--- `line::answer_line`.
+-- `line::answer_line`: the line's command.
 use borrow.Author.Needs.{needs}
 use Rattle.line.proofs.Laws.{line-gives}
 use Rattle.line.proofs.answer_line.Statement.{statement}
@@ -8,10 +8,4 @@ returns : tie.Need-returns
 returns c = search line-gives
 
 pub answer-line-spec : {M : Type 1} → statement M
-answer-line-spec =
-    tie.close
-    (tie.spec
-    (λ c κs. search needs)
-    (λ c κs. search needs)
-    (λ c. search needs)
-    returns)
+answer-line-spec = tie.close (tie.spec (λ c κs. search needs) (λ c κs. search needs) (λ c. search needs) returns)

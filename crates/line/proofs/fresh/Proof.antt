@@ -1,4 +1,4 @@
--- `line::fresh`.
+-- `line::fresh`: a new interface and its answer.
 use borrow.Author.Needs.{needs}
 use Rattle.line.proofs.Laws.{fresh-gives}
 use Rattle.line.proofs.fresh.Statement.{statement}
@@ -8,10 +8,4 @@ returns : tie.Need-returns
 returns c = search fresh-gives
 
 pub fresh-spec : {M : Type 1} → statement M
-fresh-spec =
-    tie.close
-    (tie.spec
-    (λ c κs. search needs)
-    (λ c κs. search needs)
-    (λ c. search needs)
-    returns)
+fresh-spec = tie.close (tie.spec (λ c κs. search needs) (λ c κs. search needs) (λ c. search needs) returns)
