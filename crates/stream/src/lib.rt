@@ -1,6 +1,6 @@
 // A replay whose input arrives in pieces: the lines at hand are answered, and what is left of the input is to come again with the
 // next piece.
-use line::Answered;
+use line::Replied;
 use lines::LONGEST_ANSWER;
 use lines::LONGEST_LINE;
 use lines::Stream;
@@ -61,7 +61,7 @@ fn line_at(input: &[u8], at: usize) -> &[u8]
 
 // A whole line answered, behind the answers that are there. "A line that is too long is one record up to its byte 10 and gives
 // one refusal."
-fn answer_at(state: Interface, skipping: bool, line: &[u8], out: &mut [u8], done: usize) -> Answered
+fn answer_at(state: Interface, skipping: bool, line: &[u8], out: &mut [u8], done: usize) -> Replied
     requires { ⌜ done + longestAnswer ≤ length (now out) ⌝ }
     ensures { λ r. ⌜ r .state ≡ lineEnd state skipping (now (line .entry)) .state ⌝ }
     ensures { λ r. ⌜ r .written ≡ length (lineEnd state skipping (now (line .entry)) .text) ⌝ }
@@ -70,7 +70,7 @@ fn answer_at(state: Interface, skipping: bool, line: &[u8], out: &mut [u8], done
     let rest = &mut out[done..];
     if skipping {
         let written = line::malformed(rest);
-        Answered { state, written }
+        Replied { state, written }
     } else {
         line::answer(state, line, rest)
     }
