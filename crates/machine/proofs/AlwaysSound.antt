@@ -1,16 +1,17 @@
--- From an accepted fresh every state is sound, so no call of a history is refused with 1.
-use Prim.Native.Nat.{ℕ, zero, suc, _+_, _≤_}
+-- Every call on a sound state leaves a sound state. So from an accepted fresh every state is sound, and no call of a history is
+-- refused with 1.
+use Prim.Native.Nat.{ℕ, zero, suc, _+_, _≤_, _<_}
 use mathlib.Core.Path.{_≡_, refl, sym, _∙_, subst}
 use mathlib.Core.Bool.{Bool, true, false, not, cond, _&&_, _||_, true≢false, false≢true}
 use mathlib.Core.List.{List, [], _∷_}
 use mathlib.Core.Option.{Option, none, some}
-use mathlib.Core.Logic.{inl, inr}
 use native.Mathlib.Omega.{arith}
 use lib.Dec.{leb, ltb, eqb}
 use lib.ListN.{length, set}
-use borrow.Author.Tests.{leb-true, le-leb, ltb-true, eqb-false, not-false}
+use lib.Seq.{set-out}
+use borrow.Author.Tests.{leb-true, le-leb, ltb-true, ltb-false, eq-eqb, eqb-false, not-false}
 use Rattle.rules.specs.Times.{lastTime}
-use Rattle.rules.specs.Answers.{Report, Accepted, answerReport}
+use Rattle.rules.specs.Answers.{leaves, answerReport}
 use Rattle.rules.specs.Frame.{frameOf}
 use Rattle.rules.specs.declared.Frame.{Frame}
 use Rattle.rules.specs.declared.Ipv4Address.{Ipv4Address}
@@ -28,38 +29,31 @@ use Rattle.rules.specs.declared.Response.the-variants.{Lose, Defend, Keep}
 use Rattle.rules.proofs.BytesLaws.{and-both}
 use Rattle.machine.specs.Timing.{rfc5227, wait, gap, after}
 use Rattle.machine.specs.Slots.{withStage, freeRecord, recordAt, putAt, all, lowest}
-use Rattle.machine.specs.Interface.{isOwnHardware, isAllowed, isPolicy, isFree, isFreeStage, holds, isPast, longestDelay, isNear, isSoundStage, isSoundRecord, isSound}
+use Rattle.machine.specs.Interface.{isOwnHardware, isAllowed, isPolicy, isFree, isFreeStage, isHeld, holds, isPast, longestDelay, isNear, isSoundStage, isSoundRecord, holdsNoneTwice, isSound}
 use Rattle.machine.specs.Conflicts.{isConflict, countUp, seenAt, recordAfter, response}
 use Rattle.machine.specs.Calls.{newClaim, Call, fresh, ask, tick, packet, drop, delay, serviceAt, service, serve, meet, freshOutcome, askOutcome, tickOutcome, packetOutcome, dropOutcome}
 use Rattle.machine.specs.Deadlines.{dueSlot}
 use Rattle.machine.specs.Refusals.{freshRefusal}
-use Rattle.machine.specs.Machine.{refusalOf, outcomeOf, lent, resultAs, resultOf, Promised}
-use Rattle.machine.specs.Claims.{Claim, claimsOf, asksAfterTenth}
-use Rattle.machine.specs.Demand3.{Step, stateAfter, isAccepted, isFresh, isNextFresh, History, events}
-use Rattle.machine.proofs.SlotLaws.{all-holds}
-use Rattle.machine.proofs.ClaimLaws.{on}
-use Rattle.machine.proofs.Links.{Link}
-use Rattle.machine.proofs.Invariant.{Linked, held-once}
+use Rattle.machine.specs.Machine.{refusalOf, outcomeOf, resultOf, Promised}
+use Rattle.machine.specs.Demand3.{Step, stateAfter, isAccepted, History}
+use Rattle.machine.proofs.SlotLaws.{any-fails, all-holds}
+use Rattle.machine.proofs.Links.{at-each}
+use Rattle.machine.proofs.Invariant.{same-address, held-address, held-once, held-in-one}
 use Rattle.machine.proofs.ConflictLaws.{seen-free}
-use Rattle.machine.proofs.Demand3.{not-fresh, history-linked, fresh-linked, fresh-accepted}
-use Rattle.machine.proofs.Acceptance.{Admitted, Sound, sound, sound-record, free-sound, past-later, row, ask-accepted, tick-accepted, packet-accepted, drop-accepted}
+use Rattle.machine.proofs.Demand3.{fresh-accepted}
+use Rattle.machine.proofs.Acceptance.{Admitted, Sound, sound, sound-once, sound-record, free-sound, past-later, row, ask-accepted, tick-accepted, packet-accepted, drop-accepted}
 
--- What a sound state has, with each address in one slot only, makes it sound.
-link-once : (address : Ipv4Address) (records : List Record) (claims : List Claim) → Link address records claims → (slot other : ℕ) →
-    holds address (recordAt records slot) ≡ true → holds address (recordAt records other) ≡ true → slot ≡ other
-link-once address records claims (inl away) slot other h k = absurd (false≢true (sym (away .nowhere slot) ∙ h))
-link-once address records claims (inr here) slot other h k = here .onlyHere slot h ∙ sym (here .onlyHere other k)
-
-linked-sound : (own : HardwareAddress) (s : Interface) (claims : List Claim) (asks : List ℕ) → Linked own s claims asks → Sound s → isSound s ≡ true
+-- What a sound state has, with no address held twice, makes it sound.
+whole : (s : Interface) → Sound s → holdsNoneTwice (s .records) ≡ true → isSound s ≡ true
 unfolding isSound
-linked-sound own s claims asks linked steady =
+whole s steady once =
     rw (
       steady .own,
       le-leb (s .latest .0) lastTime (steady .inRange),
       le-leb (s .conflicts) (rfc5227 .maxConflicts) (steady .counted),
       steady .requested,
       steady .eachSound,
-      held-once (s .records) (λ address. link-once address (s .records) (on address claims) (linked .links address)),
+      once,
     )
 
 -- Another record in one slot, and a later time.
@@ -230,53 +224,132 @@ module _ (s : Interface) (t : Time) (admission : Admitted s t) where
       (rw (le-leb 0 (rfc5227 .probeNum) (omega arith)) (due-near t (wait draw) (omega arith))) allowed known)
       records-later
 
-call-steady : (s : Interface) (call : Call) → isFresh call ≡ false → refusalOf s call ≡ none → Sound (outcomeOf s call .state)
-unfolding refusalOf outcomeOf askOutcome tickOutcome packetOutcome dropOutcome
-call-steady s (fresh hardware) old e = absurd (true≢false old)
-call-steady s (ask t address policy draw) old e =
-    let w = ask-accepted s t address policy e in
-    let o = lowest isFree (s .records) in
-    steady-with s t (w .admission) (At t) (s .conflicts)
-    (putAt (s .records) o (newClaim t address policy draw)) (few-conflicts s t (w .admission))
-    (le-leb (t .0) (t .0) (omega arith)) (ask-steady s t (w .admission) address policy draw o (w .allowed) (w .known))
-call-steady s (tick t draw out) old e = tick-steady s t (tick-accepted s t (length out) e .0) draw (dueSlot t (s .records))
-call-steady s (packet t bytes out) old e =
-    packet-steady s t (packet-accepted s t bytes (length out) e) (frameOf bytes) (lowest (isConflict (s .hardware) (frameOf bytes)) (s .records))
-call-steady s (drop t slot) old e =
-    let admission = drop-accepted s t slot e .0 in
-    steady-set s t admission (s .conflicts) slot freeRecord (few-conflicts s t admission) (free-sound t)
-
 fresh-steady : (own : HardwareAddress) → freshRefusal own ≡ none → Sound (freshOutcome own .state)
 unfolding freshOutcome freshRefusal all isSoundRecord
 fresh-steady own e =
     record { own = not-false (isOwnHardware own) (row 2 (not (isOwnHardware own)) none e .0); inRange = omega arith; counted = omega arith; requested = refl; eachSound = refl }
 
--- An accepted fresh, and every step after it, leave a sound state.
-step-sound : (before : Interface) (step : Step) → Promised before (step .call) (step .answer) (step .state) (step .out) →
-    isNextFresh step ≡ false → Sound before → Sound (step .state)
-unfolding resultOf
-step-sound before step promised old steady =
-    go (refusalOf before (step .call)) refl (answerReport (step .answer)) (promised .answered) (promised .handedBack) old
-  where
-    go : (refusal : Option ℕ) → refusalOf before (step .call) ≡ refusal → (report : Report Accepted) →
-        report ≡ resultAs refusal before (lent (step .call)) (outcomeOf before (step .call)) .report →
-        step .state ≡ resultAs refusal before (lent (step .call)) (outcomeOf before (step .call)) .state →
-        (isFresh (step .call) && isAccepted report) ≡ false → Sound (step .state)
-    go none e report answered kept old =
-        subst Sound (sym kept) (call-steady before (step .call) (not-fresh (isFresh (step .call)) (rw answered at old)) e)
-    go (some n) e report answered kept old = subst Sound (sym kept) steady
+call-steady : (s : Interface) (call : Call) → refusalOf s call ≡ none → Sound (outcomeOf s call .state)
+unfolding refusalOf outcomeOf askOutcome tickOutcome packetOutcome dropOutcome
+call-steady s (fresh hardware) e = fresh-steady hardware e
+call-steady s (ask t address policy draw) e =
+    let w = ask-accepted s t address policy e in
+    let o = lowest isFree (s .records) in
+    steady-with s t (w .admission) (At t) (s .conflicts)
+    (putAt (s .records) o (newClaim t address policy draw)) (few-conflicts s t (w .admission))
+    (le-leb (t .0) (t .0) (omega arith)) (ask-steady s t (w .admission) address policy draw o (w .allowed) (w .known))
+call-steady s (tick t draw out) e = tick-steady s t (tick-accepted s t (length out) e .0) draw (dueSlot t (s .records))
+call-steady s (packet t bytes out) e =
+    packet-steady s t (packet-accepted s t bytes (length out) e) (frameOf bytes) (lowest (isConflict (s .hardware) (frameOf bytes)) (s .records))
+call-steady s (drop t slot) e =
+    let admission = drop-accepted s t slot e .0 in
+    steady-set s t admission (s .conflicts) slot freeRecord (few-conflicts s t admission) (free-sound t)
 
-history-steady : (start : Interface) → Sound start → (steps : List Step) → History start steps → Sound (stateAfter start steps)
+-- No address is held twice after one slot gets another record, if where that holds an address no other slot does.
+module _ (records : List Record) (once : holdsNoneTwice records ≡ true) (slot : ℕ) where
+  set-once : (new : Record) →
+      ((address : Ipv4Address) → holds address new ≡ true → (other : ℕ) → holds address (recordAt records other) ≡ true → other ≡ slot) →
+      holdsNoneTwice (set records slot new) ≡ true
+  set-once new only = go (ltb slot (length records)) refl
+    where
+      in-one : slot < length records → (address : Ipv4Address) → (b : Bool) → holds address new ≡ b → (one other : ℕ) →
+          holds address (recordAt (set records slot new) one) ≡ true → holds address (recordAt (set records slot new) other) ≡ true → one ≡ other
+      in-one room address true e one other h k =
+          let here = at-each records slot new room (λ n r. holds address r ≡ true → n ≡ slot) (λ f. refl) (λ n apart f. only address e n f) in
+          here one h ∙ sym (here other k)
+      in-one room address false e one other h k =
+          let before = at-each records slot new room (λ n r. holds address r ≡ true → holds address (recordAt records n) ≡ true)
+              (λ f. absurd (false≢true (sym e ∙ f))) (λ n apart f. f) in
+          held-in-one records address one other once (before one h) (before other k)
+
+      go : (b : Bool) → ltb slot (length records) ≡ b → holdsNoneTwice (set records slot new) ≡ true
+      go true e = held-once (set records slot new) (λ address. in-one (ltb-true slot (length records) e) address (holds address new) refl)
+      go false e = rw (set-out records slot new (ltb-false slot (length records) e)) once
+
+  -- A slot that is freed, and one whose stage alone changes.
+  freed-once : holdsNoneTwice (set records slot freeRecord) ≡ true
+  freed-once = set-once freeRecord (λ address e. absurd (false≢true e))
+
+  restaged-once : (stage : Stage) → (isFree (recordAt records slot) ≡ true → isFreeStage stage ≡ true) →
+      holdsNoneTwice (set records slot (withStage (recordAt records slot) stage)) ≡ true
+  restaged-once stage stays = set-once (withStage r stage) (λ address e other h. held-in-one records address other slot once h (still address e (isFree r) refl))
+    where
+      r : Record
+      r = recordAt records slot
+
+      still : (address : Ipv4Address) → holds address (withStage r stage) ≡ true → (b : Bool) → isFree r ≡ b → holds address r ≡ true
+      still address e true free =
+          absurd (true≢false (sym (stays free) ∙ held-address address (withStage r stage) e .0))
+      still address e false held = rw held (eq-eqb (r .address .0) (address .0) (held-address address (withStage r stage) e .1))
+
+-- An accepted call leaves no address in two slots.
+module _ (s : Interface) (once : holdsNoneTwice (s .records) ≡ true) (t : Time) where
+  tick-once : (draw : ℕ) (o : Option ℕ) → holdsNoneTwice (serve s t draw o .state .records) ≡ true
+  unfolding service
+  tick-once draw none = once
+  tick-once draw (some slot) =
+      let r = recordAt (s .records) slot in
+      restaged-once (s .records) once slot (serviceAt (s .hardware) (r .address) t draw (r .stage) .stage)
+      (service-free (s .hardware) (r .address) t draw (r .stage))
+
+  packet-once : (f : Frame) (o : Option ℕ) → holdsNoneTwice (meet s t f o .state .records) ≡ true
+  packet-once f none = once
+  packet-once f (some slot) = by (response t r)
+    where
+      r : Record
+      r = recordAt (s .records) slot
+
+      by : (chosen : Response) → holdsNoneTwice (set (s .records) slot (recordAfter chosen t r)) ≡ true
+      by Lose = freed-once (s .records) once slot
+      by Defend = restaged-once (s .records) once slot (seenAt t (r .stage)) (λ free. seen-free t (r .stage) ∙ free)
+      by Keep = restaged-once (s .records) once slot (seenAt t (r .stage)) (λ free. seen-free t (r .stage) ∙ free)
+
+  ask-once : (address : Ipv4Address) (policy draw : ℕ) (o : Option ℕ) → isHeld address (s .records) ≡ false →
+      holdsNoneTwice (putAt (s .records) o (newClaim t address policy draw)) ≡ true
+  ask-once address policy draw none free = once
+  ask-once address policy draw (some slot) free =
+      set-once (s .records) once slot (newClaim t address policy draw)
+      (λ other-address e other h.
+      absurd (false≢true (sym (any-fails (holds address) (s .records) other refl free)
+      ∙ subst (λ (a : Ipv4Address). holds a (recordAt (s .records) other) ≡ true)
+      (same-address other-address address (sym (held-address other-address (newClaim t address policy draw) e .1))) h)))
+
+call-once : (s : Interface) (call : Call) → refusalOf s call ≡ none → holdsNoneTwice (outcomeOf s call .state .records) ≡ true
+unfolding refusalOf outcomeOf freshOutcome askOutcome tickOutcome packetOutcome dropOutcome holdsNoneTwice
+call-once s (fresh hardware) e = refl
+call-once s (ask t address policy draw) e =
+    let w = ask-accepted s t address policy e in
+    ask-once s (sound-once s (w .admission .sound)) t address policy draw (lowest isFree (s .records)) (w .notHeld)
+call-once s (tick t draw out) e =
+    tick-once s (sound-once s (tick-accepted s t (length out) e .0 .sound)) t draw (dueSlot t (s .records))
+call-once s (packet t bytes out) e =
+    packet-once s (sound-once s (packet-accepted s t bytes (length out) e .sound)) t (frameOf bytes)
+    (lowest (isConflict (s .hardware) (frameOf bytes)) (s .records))
+call-once s (drop t slot) e = freed-once (s .records) (sound-once s (drop-accepted s t slot e .0 .sound)) slot
+
+-- Every accepted call leaves a sound state; and any call on a sound state does.
+accepted-sound : (s : Interface) (call : Call) → refusalOf s call ≡ none → isSound (outcomeOf s call .state) ≡ true
+accepted-sound s call e = whole (outcomeOf s call .state) (call-steady s call e) (call-once s call e)
+
+pub stays-sound : (s : Interface) (call : Call) → isSound s ≡ true → isSound (resultOf s call .state) ≡ true
+unfolding resultOf
+stays-sound s call sound-before = go (refusalOf s call) refl
+  where
+    go : (refusal : Option ℕ) → refusalOf s call ≡ refusal → isSound (leaves refusal s (outcomeOf s call .state)) ≡ true
+    go none e = accepted-sound s call e
+    go (some n) e = sound-before
+
+history-sound : (start : Interface) → isSound start ≡ true → (steps : List Step) → History start steps → isSound (stateAfter start steps) ≡ true
 unfolding History
-history-steady start begun [] h = begun
-history-steady start begun (step ∷ earlier) h =
-    step-sound (stateAfter start earlier) step (h .0) (h .1) (history-steady start begun earlier (h .2))
+history-sound start begun [] h = begun
+history-sound start begun (step ∷ earlier) h =
+    subst (λ (s : Interface). isSound s ≡ true) (sym (h .0 .handedBack))
+    (stays-sound (stateAfter start earlier) (step .call) (history-sound start begun earlier (h .2)))
 
 pub always-sound : (own : HardwareAddress) (before start : Interface) (answer : Answer) → Promised before (fresh own) answer start [] →
     isAccepted (answerReport answer) ≡ true → (steps : List Step) → History start steps → isSound (stateAfter start steps) ≡ true
+unfolding refusalOf outcomeOf
 always-sound own before start answer promised taken steps history =
     let facts = fresh-accepted own before start answer promised taken in
-    let linked : Linked own start [] [] = rw (facts .1) (fresh-linked own) in
-    let steady : Sound start = rw (facts .1) (fresh-steady own (facts .0)) in
-    linked-sound own (stateAfter start steps) (claimsOf own (events steps)) (asksAfterTenth own (events steps))
-    (history-linked own start linked steps history) (history-steady start steady steps history)
+    let begun : isSound start ≡ true = rw (facts .1) (accepted-sound before (fresh own) (facts .0)) in
+    history-sound start begun steps history

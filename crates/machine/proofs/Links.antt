@@ -67,7 +67,7 @@ module _ (records : List Record) (slot : ℕ) (new : Record) (room : slot < leng
   at-slot = getD-set-same records slot new freeRecord room
 
   -- What holds of the new record, and of each other slot's, holds of each slot's.
-  at-each : (P : ℕ → Record → Type 0) → P slot new → ((other : ℕ) → (other ≡ slot → ⊥) → P other (recordAt records other)) →
+  pub at-each : (P : ℕ → Record → Type 0) → P slot new → ((other : ℕ) → (other ≡ slot → ⊥) → P other (recordAt records other)) →
       (other : ℕ) → P other (recordAt (set records slot new) other)
   at-each P here others other = go (eqb other slot) refl
     where
