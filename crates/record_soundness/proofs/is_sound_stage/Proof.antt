@@ -1,8 +1,8 @@
--- `soundness::is_sound_stage`: a law for each stage.
+-- `record_soundness::is_sound_stage`: a law for each stage.
 use borrow.Author.Needs.{needs}
-use Rattle.soundness.proofs.Laws.{stage-ends}
-use Rattle.soundness.proofs.is_sound_stage.Statement.{statement}
-use Rattle.soundness.proofs.is_sound_stage.Tie as tie
+use Rattle.record_soundness.proofs.Laws.{stage-ends}
+use Rattle.record_soundness.proofs.is_sound_stage.Statement.{statement}
+use Rattle.record_soundness.proofs.is_sound_stage.Tie as tie
 
 returns : tie.Need-returns
 returns c = search stage-ends

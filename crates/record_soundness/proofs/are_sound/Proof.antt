@@ -1,13 +1,13 @@
--- `soundness::are_sound`: the loop has tested the records from slot `i` on.
+-- `record_soundness::are_sound`: the loop has tested the records from slot `i` on.
 use Prim.Native.Nat.{_≤_}
 use mathlib.Core.Path.{_≡_}
 use lib.ListN.{drop}
 use borrow.Author.Needs.{needs}
 use Rattle.machine.specs.Slots.{all}
 use Rattle.machine.specs.Interface.{isSoundRecord}
-use Rattle.soundness.proofs.Scans.{all-loop}
-use Rattle.soundness.proofs.are_sound.Statement.{statement}
-use Rattle.soundness.proofs.are_sound.Tie as tie
+use Rattle.record_soundness.proofs.Scans.{all-loop}
+use Rattle.record_soundness.proofs.are_sound.Statement.{statement}
+use Rattle.record_soundness.proofs.are_sound.Tie as tie
 
 abbrev Inv-loop : tie.InvT-loop
 Inv-loop latest records sound₀ i₀ sound i = (i ≤ 4) × (sound ≡ all (isSoundRecord latest) (drop i records))

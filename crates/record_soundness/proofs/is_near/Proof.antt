@@ -1,8 +1,8 @@
--- `soundness::is_near`: up to the latest time, and beyond it.
+-- `record_soundness::is_near`: up to the latest time, and beyond it.
 use borrow.Author.Needs.{needs}
-use Rattle.soundness.proofs.Laws.{near-ends}
-use Rattle.soundness.proofs.is_near.Statement.{statement}
-use Rattle.soundness.proofs.is_near.Tie as tie
+use Rattle.record_soundness.proofs.Laws.{near-ends}
+use Rattle.record_soundness.proofs.is_near.Statement.{statement}
+use Rattle.record_soundness.proofs.is_near.Tie as tie
 
 returns : tie.Need-returns
 returns c = search near-ends

@@ -1,8 +1,8 @@
--- `soundness::is_allowed`: the first byte.
+-- `record_soundness::is_allowed`: the first byte.
 use mathlib.Core.Path.{refl}
 use Rattle.machine.specs.Interface.{isAllowed}
-use Rattle.soundness.proofs.is_allowed.Statement.{statement}
-use Rattle.soundness.proofs.is_allowed.Tie as tie
+use Rattle.record_soundness.proofs.is_allowed.Statement.{statement}
+use Rattle.record_soundness.proofs.is_allowed.Tie as tie
 
 returns : tie.Need-returns
 unfolding isAllowed

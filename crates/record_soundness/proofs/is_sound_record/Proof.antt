@@ -1,8 +1,8 @@
--- `soundness::is_sound_record`: free, or all three tests.
+-- `record_soundness::is_sound_record`: free, or all three tests.
 use borrow.Author.Needs.{needs}
-use Rattle.soundness.proofs.Laws.{record-ends}
-use Rattle.soundness.proofs.is_sound_record.Statement.{statement}
-use Rattle.soundness.proofs.is_sound_record.Tie as tie
+use Rattle.record_soundness.proofs.Laws.{record-ends}
+use Rattle.record_soundness.proofs.is_sound_record.Statement.{statement}
+use Rattle.record_soundness.proofs.is_sound_record.Tie as tie
 
 returns : tie.Need-returns
 returns c = search record-ends

@@ -1,8 +1,8 @@
--- `soundness::is_past`: never, or the time.
+-- `record_soundness::is_past`: never, or the time.
 use borrow.Author.Needs.{needs}
-use Rattle.soundness.proofs.Laws.{past-at}
-use Rattle.soundness.proofs.is_past.Statement.{statement}
-use Rattle.soundness.proofs.is_past.Tie as tie
+use Rattle.record_soundness.proofs.Laws.{past-at}
+use Rattle.record_soundness.proofs.is_past.Statement.{statement}
+use Rattle.record_soundness.proofs.is_past.Tie as tie
 
 returns-2 : tie.Need-returns-2
 returns-2 c = search past-at
