@@ -1,8 +1,8 @@
--- `slots::earlier`: the only one, the first, the second.
+-- `deadlines::earlier`: the only one, the first, the second.
 use borrow.Author.Needs.{needs}
-use Rattle.slots.proofs.Laws.{earlier-ends}
-use Rattle.slots.proofs.earlier.Statement.{statement}
-use Rattle.slots.proofs.earlier.Tie as tie
+use Rattle.deadlines.proofs.Laws.{earlier-ends}
+use Rattle.deadlines.proofs.earlier.Statement.{statement}
+use Rattle.deadlines.proofs.earlier.Tie as tie
 
 returns-2 : tie.Need-returns-2
 returns-2 c = search earlier-ends

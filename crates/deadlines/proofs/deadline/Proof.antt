@@ -1,8 +1,8 @@
--- `slots::deadline`: the deadline of a stage that has one.
+-- `deadlines::deadline`: the deadline of a stage that has one.
 use borrow.Author.Needs.{needs}
-use Rattle.slots.proofs.Laws.{stage-ends}
-use Rattle.slots.proofs.deadline.Statement.{statement}
-use Rattle.slots.proofs.deadline.Tie as tie
+use Rattle.deadlines.proofs.Laws.{stage-ends}
+use Rattle.deadlines.proofs.deadline.Statement.{statement}
+use Rattle.deadlines.proofs.deadline.Tie as tie
 
 returns-2 : tie.Need-returns-2
 returns-2 c = search stage-ends

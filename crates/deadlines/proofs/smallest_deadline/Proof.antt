@@ -1,13 +1,14 @@
--- `slots::smallest_deadline`: the loop has found the smallest deadline from slot `i` on.
+-- `deadlines::smallest_deadline`: the loop has found the smallest deadline from slot `i` on.
 use Prim.Native.Nat.{_≤_}
 use mathlib.Core.Path.{_≡_}
 use lib.ListN.{drop}
 use borrow.Author.Needs.{needs}
 use Rattle.rules.specs.Answers.{timeOf}
 use Rattle.machine.specs.Deadlines.{smallestDeadline}
-use Rattle.slots.proofs.Scans.{begins, down, done, smallestScan}
-use Rattle.slots.proofs.smallest_deadline.Statement.{statement}
-use Rattle.slots.proofs.smallest_deadline.Tie as tie
+use Rattle.slots.proofs.Scans.{begins, down, done}
+use Rattle.deadlines.proofs.Scans.{smallestScan}
+use Rattle.deadlines.proofs.smallest_deadline.Statement.{statement}
+use Rattle.deadlines.proofs.smallest_deadline.Tie as tie
 
 abbrev Inv-loop : tie.InvT-loop
 Inv-loop records best₀ i₀ best i = (i ≤ 4) × (timeOf best ≡ smallestDeadline (drop i records))

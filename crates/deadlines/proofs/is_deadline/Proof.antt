@@ -1,8 +1,8 @@
--- `slots::is_deadline`: no deadline, or the test of it.
+-- `deadlines::is_deadline`: no deadline, or the test of it.
 use borrow.Author.Needs.{needs}
-use Rattle.slots.proofs.Laws.{deadline-ends}
-use Rattle.slots.proofs.is_deadline.Statement.{statement}
-use Rattle.slots.proofs.is_deadline.Tie as tie
+use Rattle.deadlines.proofs.Laws.{deadline-ends}
+use Rattle.deadlines.proofs.is_deadline.Statement.{statement}
+use Rattle.deadlines.proofs.is_deadline.Tie as tie
 
 returns : tie.Need-returns
 returns c = search deadline-ends

@@ -1,4 +1,4 @@
--- `slots::deadline_slot`: the loop has found the lowest slot from `i` on that has the deadline.
+-- `deadlines::deadline_slot`: the loop has found the lowest slot from `i` on that has the deadline.
 use Prim.Native.Nat.{_≤_}
 use mathlib.Core.Path.{_≡_}
 use lib.ListN.{drop}
@@ -6,9 +6,9 @@ use borrow.Author.Needs.{needs}
 use Rattle.rules.specs.Answers.{slotOf}
 use Rattle.machine.specs.Slots.{lowestFrom}
 use Rattle.machine.specs.Deadlines.{hasDeadline}
 use Rattle.slots.proofs.Scans.{lowest-loop}
-use Rattle.slots.proofs.deadline_slot.Statement.{statement}
-use Rattle.slots.proofs.deadline_slot.Tie as tie
+use Rattle.deadlines.proofs.deadline_slot.Statement.{statement}
+use Rattle.deadlines.proofs.deadline_slot.Tie as tie
 
 abbrev Inv-loop : tie.InvT-loop
 Inv-loop time records best₀ i₀ best i = (i ≤ 4) × (slotOf best ≡ lowestFrom i (hasDeadline (time .0)) (drop i records))

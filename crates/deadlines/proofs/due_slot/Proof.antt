@@ -1,8 +1,8 @@
--- `slots::due_slot`: no deadline, one not later than the time, one later.
+-- `deadlines::due_slot`: no deadline, one not later than the time, one later.
 use borrow.Author.Needs.{needs}
-use Rattle.slots.proofs.Laws.{due-ends}
-use Rattle.slots.proofs.due_slot.Statement.{statement}
-use Rattle.slots.proofs.due_slot.Tie as tie
+use Rattle.deadlines.proofs.Laws.{due-ends}
+use Rattle.deadlines.proofs.due_slot.Statement.{statement}
+use Rattle.deadlines.proofs.due_slot.Tie as tie
 
 returns : tie.Need-returns
 returns c = search due-ends
