@@ -132,7 +132,7 @@ pub fn accepted(kind: Kind, slot: SlotNumber, state: Interface) -> Called
     ensures { λ r. ⌜ HandsBack r (acceptedWith kind (slotOf slot) state) state ⌝ }
 {
     let records = state.records;
-    let next = slots::smallest_deadline(records);
+    let next = deadlines::smallest_deadline(records);
     let answer = Answer::Accepted { kind, slot, next };
     Called { answer, state }
 }
