@@ -1,8 +1,8 @@
--- `conflicts::response`: by the stage.
+-- `responses::response`: by the stage.
 use borrow.Author.Needs.{needs}
-use Rattle.conflicts.proofs.Laws.{response-ends}
-use Rattle.conflicts.proofs.response.Statement.{statement}
-use Rattle.conflicts.proofs.response.Tie as tie
+use Rattle.responses.proofs.Laws.{response-ends}
+use Rattle.responses.proofs.response.Statement.{statement}
+use Rattle.responses.proofs.response.Tie as tie
 
 returns : tie.Need-returns
 returns c = search response-ends

@@ -1,7 +1,7 @@
--- `conflicts::response_kind`: a kind for each response.
+-- `responses::response_kind`: a kind for each response.
 use borrow.Author.Needs.{needs}
-use Rattle.conflicts.proofs.response_kind.Statement.{statement}
-use Rattle.conflicts.proofs.response_kind.Tie as tie
+use Rattle.responses.proofs.response_kind.Statement.{statement}
+use Rattle.responses.proofs.response_kind.Tie as tie
 
 returns : tie.Need-returns
 returns c = search needs

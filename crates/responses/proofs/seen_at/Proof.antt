@@ -1,8 +1,8 @@
--- `conflicts::seen_at`: by the stage.
+-- `responses::seen_at`: by the stage.
 use borrow.Author.Needs.{needs}
-use Rattle.conflicts.proofs.Laws.{seen-ends}
-use Rattle.conflicts.proofs.seen_at.Statement.{statement}
-use Rattle.conflicts.proofs.seen_at.Tie as tie
+use Rattle.responses.proofs.Laws.{seen-ends}
+use Rattle.responses.proofs.seen_at.Statement.{statement}
+use Rattle.responses.proofs.seen_at.Tie as tie
 
 returns : tie.Need-returns
 returns c = search seen-ends

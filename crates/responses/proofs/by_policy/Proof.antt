@@ -1,8 +1,8 @@
--- `conflicts::by_policy`: policy 1, a first conflict or none of late, policy 2, policy 3.
+-- `responses::by_policy`: policy 1, a first conflict or none of late, policy 2, policy 3.
 use borrow.Author.Needs.{needs}
-use Rattle.conflicts.proofs.Laws.{policy-ends}
-use Rattle.conflicts.proofs.by_policy.Statement.{statement}
-use Rattle.conflicts.proofs.by_policy.Tie as tie
+use Rattle.responses.proofs.Laws.{policy-ends}
+use Rattle.responses.proofs.by_policy.Statement.{statement}
+use Rattle.responses.proofs.by_policy.Tie as tie
 
 returns : tie.Need-returns
 returns c = search policy-ends

@@ -1,8 +1,8 @@
--- `conflicts::record_after`: by the response.
+-- `responses::record_after`: by the response.
 use borrow.Author.Needs.{needs}
-use Rattle.conflicts.proofs.Laws.{after-ends}
-use Rattle.conflicts.proofs.record_after.Statement.{statement}
-use Rattle.conflicts.proofs.record_after.Tie as tie
+use Rattle.responses.proofs.Laws.{after-ends}
+use Rattle.responses.proofs.record_after.Statement.{statement}
+use Rattle.responses.proofs.record_after.Tie as tie
 
 returns : tie.Need-returns
 returns c = search after-ends
