@@ -45,7 +45,7 @@ fn strike(state: Interface, time: Time, slot: u64, held: Record, chosen: Respons
     let hardware = state.hardware;
     let request = state.request;
     let conflicts = count_up(state.conflicts);
-    let new = conflicts::record_after(chosen, time, held);
+    let new = responses::record_after(chosen, time, held);
     let before = state.records;
     let records = steps::put_at(before, SlotNumber::Slot(slot), new);
     Interface {
@@ -83,7 +83,7 @@ fn respond(
     ensures { λ r. ⌜ Done (Call.respond state time slot held chosen) (now (out .entry)) r (now (out .exit)) ⌝ }
 {
     let own = state.hardware;
-    let kind = conflicts::response_kind(chosen);
+    let kind = responses::response_kind(chosen);
     let new = strike(state, time, slot, held, chosen);
     let frame = defence(own, held, chosen);
     steps::hand_out(frame, out);
@@ -109,7 +109,7 @@ fn meet(state: Interface, time: Time, frame: Frame, out: &mut [u8]) -> Called
         SlotNumber::Absent => unconcerned(state, time),
         SlotNumber::Slot(slot) => {
             let held = steps::record_at(records, slot);
-            let chosen = conflicts::response(held, time);
+            let chosen = responses::response(held, time);
             respond(state, time, slot, held, chosen, out)
         }
     }
