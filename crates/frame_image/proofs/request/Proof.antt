@@ -1,9 +1,9 @@
--- `frame_writer::request`: every index is below 8, every byte fits, and the bytes are the header's and the addresses'.
+-- `frame_image::request`: every index is below 8, every byte fits, and the bytes are the header's and the addresses'.
 use borrow.Author.Needs.{needs}
 use native.Mathlib.Nat.{div-one}
 use Rattle.rules.specs.Frame.{frameBytes}
-use Rattle.frame_writer.proofs.request.Statement.{statement}
-use Rattle.frame_writer.proofs.request.Tie as tie
+use Rattle.frame_image.proofs.request.Statement.{statement}
+use Rattle.frame_image.proofs.request.Tie as tie
 
 returns : tie.Need-returns
 unfolding frameBytes

@@ -1,8 +1,8 @@
--- `frame_writer::image`: another operation, or the request as it stands.
+-- `frame_image::image`: another operation, or the request as it stands.
 use borrow.Author.Needs.{needs}
-use Rattle.frame_writer.proofs.Laws.{image-request, image-other}
-use Rattle.frame_writer.proofs.image.Statement.{statement}
-use Rattle.frame_writer.proofs.image.Tie as tie
+use Rattle.frame_image.proofs.Laws.{image-request, image-other}
+use Rattle.frame_image.proofs.image.Statement.{statement}
+use Rattle.frame_image.proofs.image.Tie as tie
 
 request-requires : tie.Need-request-requires
 request-requires c κs = search needs
