@@ -1,8 +1,8 @@
--- `frame_reader::fields`: every index is below 28, and each field is the number of its bytes.
+-- `frame_fields::fields`: every index is below 28, and each field is the number of its bytes.
 use borrow.Author.Needs.{needs}
-use Rattle.frame_reader.proofs.Laws.{fields-frame}
-use Rattle.frame_reader.proofs.fields.Statement.{statement}
-use Rattle.frame_reader.proofs.fields.Tie as tie
+use Rattle.frame_fields.proofs.Laws.{fields-frame}
+use Rattle.frame_fields.proofs.fields.Statement.{statement}
+use Rattle.frame_fields.proofs.fields.Tie as tie
 
 returns : tie.Need-returns
 returns c = search fields-frame
