@@ -55,8 +55,8 @@ fn ask_check(state: Interface, admitted: Check, time: Time, address: Ipv4Address
     ensures { λ r. ⌜ checkOf r ≡ askRefusal state time address policy ⌝ }
 {
     let records = state.records;
-    let allowed = soundness::is_allowed(address);
-    let known = soundness::is_policy(policy);
+    let allowed = record_soundness::is_allowed(address);
+    let known = record_soundness::is_policy(policy);
     let held = slots::is_held(records, address);
     let free = slots::free_slot(records);
     let full = is_absent(free);

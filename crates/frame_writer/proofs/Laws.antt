@@ -1,16 +1,16 @@
 -- How what the inner functions promise makes up the definitions of the crate rules: a law for each way that a function ends.
-use Prim.Native.Nat.{ℕ, _≤_, _<_, _/_, _%_, _^_}
+use Prim.Native.Nat.{ℕ, _≤_, _<_, _^_}
 use mathlib.Core.Path.{_≡_, sym, _∙_}
 use mathlib.Core.List.{List, _++_}
 use mathlib.Core.Bool.{Bool, true, false}
-use native.Mathlib.Nat.{le-refl, div-one}
+use native.Mathlib.Nat.{le-refl}
 use native.Mathlib.Omega.{arith}
-use lib.ListN.{length, take, drop, set}
+use lib.ListN.{length, take, drop}
 use lib.Seq.{length-take-le, take-take}
 use lib.Dec.{ltb}
 use borrow.Author.Tests.{lt-ltb, le-ltb}
 use Rattle.rules.specs.Answers.{refusalNumber, refused, accepted}
-use Rattle.rules.specs.Frame.{requestHeader, isKnownOperation, frameBytes, isWritable, writeRefusal, writeOf, framePut, writeOut, writeReport}
+use Rattle.rules.specs.Frame.{isKnownOperation, frameBytes, isWritable, writeRefusal, writeOf, framePut, writeOut, writeReport}
 use Rattle.rules.specs.declared.Frame.{Frame}
 use Rattle.rules.specs.declared.WriteAnswer.{WriteAnswer}
 use Rattle.rules.specs.declared.WriteAnswer.the-variants.{Refused, Written}
@@ -19,15 +19,6 @@ use Rattle.rules.proofs.FrameLaws.{frame-length, write-accepted}
 use Rattle.frame_writer.specs.Parts.{bytesWritten}
 
 module _ (f : Frame) where
-  module _ (bytes : List ℕ) (told : bytes ≡ requestHeader ++ drop 8 (frameBytes f)) where
-    pub image-request : f .operation ≡ 1 → bytes ≡ frameBytes f
-    unfolding frameBytes
-    image-request e = rw (told, e)
-
-    pub image-other : set (set bytes 6 (f .operation / 256 % 256)) 7 (f .operation % 256) ≡ frameBytes f
-    unfolding frameBytes
-    image-other = rw (told, div-one (f .operation))
-
   -- `known` is what the test of the operation answered.
   module _ (known : Bool) (told : known ≡ isKnownOperation (f .operation)) where
     pub unknown-operation : known ≡ false → false ≡ isWritable f

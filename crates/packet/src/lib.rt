@@ -58,8 +58,8 @@ fn respond(state: Interface, time: Time, slot: u64, held: Record, chosen: Respon
 {
     let own = state.hardware;
     let request = state.request;
-    let kind = conflicts::response_kind(chosen);
-    let after = conflicts::record_after(chosen, time, held);
+    let kind = responses::response_kind(chosen);
+    let after = responses::record_after(chosen, time, held);
     let frame = defence(own, held, chosen);
     Decision {
         verdict: Verdict::Accepted(kind),
@@ -86,7 +86,7 @@ fn meet(state: Interface, time: Time, frame: Frame) -> Decision
         SlotNumber::Absent => steps::nothing(state, time),
         SlotNumber::Slot(slot) => {
             let held = steps::record_at(records, slot);
-            let chosen = conflicts::response(held, time);
+            let chosen = responses::response(held, time);
             respond(state, time, slot, held, chosen)
         }
     }

@@ -1,11 +1,10 @@
 -- Each request is the frame of the crate rules, and a sound state's requests can be written.
 use Prim.Native.Nat.{ℕ, _≤_}
-use mathlib.Core.Path.{_≡_, refl}
+use mathlib.Core.Path.{_≡_}
 use mathlib.Core.List.{List}
-use mathlib.Core.Bool.{Bool, true, false}
+use mathlib.Core.Bool.{true}
 use lib.ListN.{length}
 use borrow.Author.Tests.{le-ltb}
-use Rattle.rules.specs.Addresses.{isHardware}
 use Rattle.rules.specs.Frame.{probe, announcement, isWritable, writeRefusal, framePut, writeOut}
 use Rattle.rules.specs.declared.Ipv4Address.{Ipv4Address}
 use Rattle.rules.specs.declared.HardwareAddress.{HardwareAddress}

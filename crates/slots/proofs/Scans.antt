@@ -10,7 +10,6 @@ use lib.ListN.{length, drop, drop-of-length-le}
 use lib.Seq.{drop-cons}
 use Rattle.rules.specs.declared.Record.{Record}
 use Rattle.machine.specs.Slots.{freeRecord, recordAt, any, lowestFrom}
-use Rattle.machine.specs.Deadlines.{deadlineOf, smaller, smallestDeadline}
 
 -- A scan: its value over records of which the first is slot n, what it sees in a record and those after it, and how that adds
 -- to the value of those.
@@ -141,24 +140,3 @@ pub any-done-at : (test : Record → Bool) → DoneAt (anyScan test)
 any-done-at test = done-at (anyScan test)
 
 pub ruleset any-loop = (any-begins, any-down, any-done-at)
-
--- The scan for the smallest deadline.
-pub smallest-empty : smallestDeadline [] ≡ none
-unfolding smallestDeadline
-smallest-empty = refl
-
-pub smallest-made : (r : Record) (rest : List Record) →
-    smallestDeadline (r ∷ rest) ≡ smaller (deadlineOf (r .stage)) (smallestDeadline rest)
-unfolding smallestDeadline
-smallest-made r rest = refl
-
-abbrev pub smallestScan : Scan (Option ℕ) (Option ℕ)
-smallestScan =
-    record {
-      value = λ (n : ℕ) (rs : List Record). smallestDeadline rs;
-      none = none;
-      see = λ (r : Record) (rest : List Record). deadlineOf (r .stage);
-      step = λ (n : ℕ) (seen : Option ℕ) (above : Option ℕ). smaller seen above;
-      empty = λ (n : ℕ). smallest-empty;
-      made = λ (n : ℕ). smallest-made;
-    }

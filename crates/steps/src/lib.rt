@@ -152,7 +152,7 @@ fn answer(verdict: Verdict, slot: SlotNumber, records: [Record; 4]) -> Answer
     match verdict {
         Verdict::Refused(refusal) => Answer::Refused(refusal),
         Verdict::Accepted(kind) => {
-            let next = slots::smallest_deadline(records);
+            let next = deadlines::smallest_deadline(records);
             Answer::Accepted { kind, slot, next }
         }
     }

@@ -158,7 +158,7 @@ pub fn tick(state: Interface, admitted: Check, time: Time, draw: u32, room: usiz
         Check::Refused(refusal) => steps::refused(refusal, state),
         Check::Passed => {
             let records = state.records;
-            let slot = slots::due_slot(records, time);
+            let slot = deadlines::due_slot(records, time);
             match slot {
                 SlotNumber::Absent => steps::nothing(state, time),
                 SlotNumber::Slot(due) => serve(state, time, draw, due),

@@ -1,5 +1,4 @@
 -- `admission::admit`: refusals 1, 3 and 4, or none.
-use borrow.Author.Needs.{needs}
 use Rattle.admission.proofs.Laws.{admit-ends}
 use Rattle.admission.proofs.admit.Statement.{statement}
 use Rattle.admission.proofs.admit.Tie as tie

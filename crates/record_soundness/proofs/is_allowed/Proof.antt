@@ -1,0 +1,12 @@
+-- `record_soundness::is_allowed`: the first byte.
+use mathlib.Core.Path.{refl}
+use Rattle.machine.specs.Interface.{isAllowed}
+use Rattle.record_soundness.proofs.is_allowed.Statement.{statement}
+use Rattle.record_soundness.proofs.is_allowed.Tie as tie
+
+returns : tie.Need-returns
+unfolding isAllowed
+returns c = refl
+
+pub is-allowed-spec : {M : Type 1} → statement M
+is-allowed-spec = tie.close (tie.spec returns)

@@ -1,0 +1,23 @@
+-- `record_soundness::is_sound_record`: free, or all three tests.
+use borrow.Author.Needs.{needs}
+use Rattle.record_soundness.proofs.Laws.{record-ends}
+use Rattle.record_soundness.proofs.is_sound_record.Statement.{statement}
+use Rattle.record_soundness.proofs.is_sound_record.Tie as tie
+
+returns : tie.Need-returns
+returns c = search record-ends
+
+returns-2 : tie.Need-returns-2
+returns-2 c = search record-ends
+
+pub is-sound-record-spec : {M : Type 1} → statement M
+is-sound-record-spec =
+    tie.close
+    (tie.spec
+    (λ c. search needs)
+    (λ c κs. search needs)
+    (λ c κs. search needs)
+    (λ c κs. search needs)
+    (λ c κs. search needs)
+    returns
+    returns-2)
