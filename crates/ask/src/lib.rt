@@ -50,7 +50,13 @@ fn is_absent(slot: SlotNumber) -> bool
 }
 
 // The refusal of an ask. `admitted` has the rows 1, 3 and 4.
-fn ask_check(state: Interface, admitted: Check, time: Time, address: Ipv4Address, policy: u64) -> Check
+fn ask_check(
+    state: Interface,
+    admitted: Check,
+    time: Time,
+    address: Ipv4Address,
+    policy: u64,
+) -> Check
     requires { ⌜ checkOf admitted ≡ stateAndTime state time none ⌝ }
     ensures { λ r. ⌜ checkOf r ≡ askRefusal state time address policy ⌝ }
 {
@@ -82,7 +88,14 @@ fn new_claim(time: Time, address: Ipv4Address, policy: u64, draw: u32) -> Record
 }
 
 // Asks for an address: its claim takes the lowest free slot. `admitted` has the rows 1, 3 and 4.
-pub fn ask(state: Interface, admitted: Check, time: Time, address: Ipv4Address, policy: u64, draw: u32) -> Decision
+pub fn ask(
+    state: Interface,
+    admitted: Check,
+    time: Time,
+    address: Ipv4Address,
+    policy: u64,
+    draw: u32,
+) -> Decision
     requires { ⌜ checkOf admitted ≡ stateAndTime state time none ⌝ }
     ensures { λ r. ⌜ Decided state (askRefusal state time address policy) (askOutcome state time address policy draw) r ⌝ }
 {

@@ -26,13 +26,24 @@ pub enum Call {
         policy: u64,
         draw: u32,
     },
-    Tick { draw: u32 },
+    Tick {
+        draw: u32,
+    },
     Packet,
-    Drop { slot: u64 },
+    Drop {
+        slot: u64,
+    },
 }
 
 // What a call comes to. `admitted` has the rows 1, 3 and 4.
-fn decide(state: Interface, admitted: Check, time: Time, call: Call, bytes: &[u8], out: &[u8]) -> Decision
+fn decide(
+    state: Interface,
+    admitted: Check,
+    time: Time,
+    call: Call,
+    bytes: &[u8],
+    out: &[u8],
+) -> Decision
     requires { ⌜ checkOf admitted ≡ stateAndTime state time none ⌝ }
     ensures { λ r. ⌜ Decided state (refusalOf state (callWith time call (now (bytes .entry)) (now (out .entry)))) (outcomeOf state (callWith time call (now (bytes .entry)) (now (out .entry)))) r ⌝ }
 {
@@ -51,7 +62,14 @@ fn decide(state: Interface, admitted: Check, time: Time, call: Call, bytes: &[u8
 
 // Any call but fresh, on a state of which it is known whether it is sound. A packet's bytes and the out buffer are lent to each;
 // no other reads the bytes, and ask and drop leave the buffer as it is.
-pub fn perform(state: Interface, sound: bool, time: Time, call: Call, bytes: &[u8], out: &mut [u8]) -> Called
+pub fn perform(
+    state: Interface,
+    sound: bool,
+    time: Time,
+    call: Call,
+    bytes: &[u8],
+    out: &mut [u8],
+) -> Called
     requires { ⌜ sound ≡ isSound state ⌝ }
     ensures { λ r. ⌜ Performed state (callWith time call (now (bytes .entry)) (now (out .entry))) (now (out .entry)) r (now (out .exit)) ⌝ }
 {

@@ -113,7 +113,14 @@ fn fresh(state: Interface, own: HardwareAddress, out: &mut [u8]) -> Replied
 }
 
 // Any other call, and its answer's text.
-fn perform(state: Interface, sound: bool, time: Time, call: Call, bytes: &[u8], out: &mut [u8]) -> Replied
+fn perform(
+    state: Interface,
+    sound: bool,
+    time: Time,
+    call: Call,
+    bytes: &[u8],
+    out: &mut [u8],
+) -> Replied
     requires { ⌜ (sound ≡ isSound state) × (longestAnswer ≤ length (now out)) ⌝ }
     ensures { λ r. ⌜ Gives (answerTo state (some (callWith time call (now (bytes .entry)) lentBuffer))) (r .state) (r .written) (now (out .entry)) (now (out .exit)) ⌝ }
 {
@@ -129,7 +136,13 @@ fn perform(state: Interface, sound: bool, time: Time, call: Call, bytes: &[u8], 
 }
 
 // What a command comes to. The bytes of a packet stand at the start of `head`.
-fn reply(state: Interface, sound: bool, command: Command, head: &[u8; 28], out: &mut [u8]) -> Replied
+fn reply(
+    state: Interface,
+    sound: bool,
+    command: Command,
+    head: &[u8; 28],
+    out: &mut [u8],
+) -> Replied
     requires { ⌜ (sound ≡ isSound state) × (longestAnswer ≤ length (now out)) ⌝ }
     ensures { λ r. ⌜ Gives (answerTo state (commandCall command (now (head .entry)))) (r .state) (r .written) (now (out .entry)) (now (out .exit)) ⌝ }
 {

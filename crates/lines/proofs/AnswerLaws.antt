@@ -14,8 +14,10 @@ use Rattle.rules.specs.declared.Kind.{Kind}
 use Rattle.rules.specs.declared.Kind.the-variants.{Fresh, Taken, Nothing, Probe, Announce, Defend, Lost, Kept, Dropped}
 use Rattle.rules.specs.declared.Interface.{Interface}
 use Rattle.rules.proofs.FrameLaws.{frame-length}
+use Rattle.machine.specs.Interface.{isSound}
 use Rattle.machine.specs.Calls.{Call}
 use Rattle.machine.specs.Machine.{outcomeOf, resultOf}
+use Rattle.machine.proofs.AlwaysSound.{stays-sound}
 use Rattle.lines.specs.Numbers.{areDigits, number, largest, hexBytes, bytes}
 use Rattle.lines.specs.Answers.{refusedText, acceptedText, reportText, numberText, frameText, answerTo, lineAnswer, longestAnswer}
 use Rattle.lines.specs.Forms.{callOf}
@@ -89,3 +91,12 @@ longest-answer s line = go (callOf line)
     go : (call : Option Call) → length (answerTo s call .text) ≤ longestAnswer
     go none = refused-at-most 14
     go (some call) = report-at-most (resultOf s call .report) (outcomeOf s call .frame)
+
+-- A line leaves a sound state sound.
+pub line-stays-sound : (s : Interface) (line : List ℕ) → isSound s ≡ true → isSound (lineAnswer s line .state) ≡ true
+unfolding lineAnswer
+line-stays-sound s line sound = go (callOf line)
+  where
+    go : (call : Option Call) → isSound (answerTo s call .state) ≡ true
+    go none = sound
+    go (some call) = stays-sound s call sound

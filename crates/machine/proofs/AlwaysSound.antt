@@ -259,7 +259,7 @@ module _ (records : List Record) (once : holdsNoneTwice records ≡ true) (slot 
           here one h ∙ sym (here other k)
       in-one room address false e one other h k =
           let before = at-each records slot new room (λ n r. holds address r ≡ true → holds address (recordAt records n) ≡ true)
-              (λ f. absurd (false≢true (sym e ∙ f))) (λ n apart f. f) in
+          (λ f. absurd (false≢true (sym e ∙ f))) (λ n apart f. f) in
           held-in-one records address one other once (before one h) (before other k)
 
       go : (b : Bool) → ltb slot (length records) ≡ b → holdsNoneTwice (set records slot new) ≡ true

@@ -10,10 +10,12 @@ use lib.Dec.{ltb}
 use lib.ListN.{length, take, drop, length-drop, take-append-drop}
 use lib.Seq.{length-take-le, drop-drop}
 use Rattle.rules.specs.declared.Interface.{Interface}
+use Rattle.machine.specs.Interface.{isSound}
 use Rattle.lines.specs.declared.Stream.{Stream}
 use Rattle.lines.specs.Fields.{newline, firstPart}
 use Rattle.lines.specs.Answers.{longestAnswer, written}
 use Rattle.lines.specs.Stream.{longestLine, Work, endedAnswer, atLineStart, wait, afterwards, work}
+use Rattle.lines.proofs.AnswerLaws.{line-stays-sound}
 use Rattle.lines.proofs.FieldLaws.{first-length}
 use Rattle.lines.proofs.StreamLaws.{afterwards-nothing, afterwards-twice, lineDone, work-line, work-wait}
 use Rattle.stream.proofs.Places.{take-written, drop-written, has-room}
@@ -37,6 +39,9 @@ begins st input out =
       untouched = refl;
       so-far = sym (afterwards-nothing (work st input (length out))) ∙ ap (λ n. afterwards 0 [] (work st input n)) (omega arith);
     }
+
+pub is-known : (s : Interface) (known : Bool) → (known ≡ true → isSound s ≡ true) → known ≡ true → true ≡ isSound s
+is-known s known sure e = sym (sure e)
 
 -- A line that byte 10 ended comes next.
 line-next : (st : Stream) (line input : List ℕ) (room : ℕ)
@@ -154,6 +159,14 @@ module _ {st₀ : Stream} {input out₀ : List ℕ} {st : Stream} {at done : ℕ
               ∙ afterwards-twice at (suc (length line)) (take done out) text (rest (drop (suc (length line)) (drop at input)) (length out₀ - done - length text))
               ∙ rw (text-is, drop-drop (suc (length line)) at input, add-one (length line), room-is);
         })
+
+    -- A state that is sound stays so.
+    pub carried : {s : Interface} {sound : Bool} → s ≡ endedAnswer st line .state → sound ≡ isSound (st .state) → sound ≡ true → isSound s ≡ true
+    carried s-is told is = ap isSound s-is ∙ by (st .skipping)
+      where
+        by : (skipping : Bool) → isSound (endedAnswer (record { state = st .state; skipping = skipping }) line .state) ≡ true
+        by true = sym told ∙ is
+        by false = line-stays-sound (st .state) line (sym told ∙ is)
 
     -- The out buffer is too short for its answer.
     pub stops : (length line ≡ length input - at → ⊥) → length out - done < longestAnswer

@@ -10,8 +10,9 @@ use rules::Moment;
 use rules::Time;
 ghost use Prim.Native.Nat.{_+_, _≤_};
 ghost use mathlib.Core.Path.{_≡_};
-ghost use mathlib.Core.Bool.{cond};
+ghost use mathlib.Core.Bool.{true, cond};
 ghost use lib.ListN.{length, take, drop};
+ghost use Rattle.machine.specs.Interface.{isSound};
 ghost use Rattle.machine.specs.Bench.{zeros};
 ghost use Rattle.lines.specs.Fields.{newline, firstPart};
 ghost use Rattle.lines.specs.Answers.{longestAnswer, hasRoom, written};
@@ -59,10 +60,30 @@ fn line_at(input: &[u8], at: usize) -> &[u8]
     fields::part(&input[at..], b'\n')
 }
 
+// Whether a state is sound, where it may be known already that it is. No call makes a sound state unsound, so the lines of an
+// input ask once.
+fn is_sound(state: Interface, known: bool) -> bool
+    requires { ⌜ (known ≡ true → isSound state ≡ true) ⌝ }
+    ensures { λ r. ⌜ r ≡ isSound state ⌝ }
+{
+    if known {
+        true
+    } else {
+        soundness::is_sound(state)
+    }
+}
+
 // A whole line answered, behind the answers that are there. "A line that is too long is one record up to its byte 10 and gives
 // one refusal."
-fn answer_at(state: Interface, skipping: bool, line: &[u8], out: &mut [u8], done: usize) -> Replied
-    requires { ⌜ done + longestAnswer ≤ length (now out) ⌝ }
+fn answer_at(
+    state: Interface,
+    sound: bool,
+    skipping: bool,
+    line: &[u8],
+    out: &mut [u8],
+    done: usize,
+) -> Replied
+    requires { ⌜ (sound ≡ isSound state) × (done + longestAnswer ≤ length (now out)) ⌝ }
     ensures { λ r. ⌜ r .state ≡ lineEnd state skipping (now (line .entry)) .state ⌝ }
     ensures { λ r. ⌜ r .written ≡ length (lineEnd state skipping (now (line .entry)) .text) ⌝ }
     ensures { λ r. ⌜ now (out .exit) ≡ writtenAt done (lineEnd state skipping (now (line .entry)) .text) (now (out .entry)) ⌝ }
@@ -72,7 +93,7 @@ fn answer_at(state: Interface, skipping: bool, line: &[u8], out: &mut [u8], done
         let written = line::malformed(rest);
         Replied { state, written }
     } else {
-        line::answer(state, line, rest)
+        line::answer_line(state, sound, line, rest)
     }
 }
 
@@ -89,6 +110,7 @@ pub fn work(stream: Stream, input: &[u8], out: &mut [u8]) -> Worked
     let mut skipping = stream.skipping;
     let mut at = 0;
     let mut done = 0;
+    let mut sound = false;
     loop {
         let line = line_at(input, at);
         // No byte 10 is left.
@@ -113,7 +135,8 @@ pub fn work(stream: Stream, input: &[u8], out: &mut [u8]) -> Worked
                 waiting: false,
             };
         }
-        let answered = answer_at(state, skipping, line, out, done);
+        sound = is_sound(state, sound);
+        let answered = answer_at(state, sound, skipping, line, out, done);
         state = answered.state;
         skipping = false;
         at += line.len() + 1;

@@ -1,11 +1,8 @@
 -- `stream::answer_at`: the end of a line that is too long, or a line.
-use Prim.Native.Nat.{_-_, _≤_}
 use mathlib.Core.Path.{refl}
 use borrow.Author.Needs.{needs}
-use borrow.Author.Tests.{le-leb}
 use native.Mathlib.Omega.{arith}
-use lib.ListN.{length, take, drop}
-use Rattle.lines.specs.Answers.{refusedText, lineAnswer, longestAnswer}
+use Rattle.lines.specs.Answers.{refusedText, lineAnswer}
 use Rattle.stream.proofs.Places.{length-rest, put-back}
 use Rattle.stream.proofs.answer_at.Statement.{statement}
 use Rattle.stream.proofs.answer_at.Tie as tie
@@ -20,11 +17,9 @@ returns c =
 returns-2 : tie.Need-returns-2
 returns-2 c =
     let a = c .before .before .before .before .before .before .before .args in
-    let room : longestAnswer ≤ length (take (length (a .out .now) - a .done) (drop (a .done) (a .out .now))) =
-    omega (arith, length-rest (a .done) (a .out .now), c .before .before .before .before .before .before .before .pre) in
-    let e = simp (le-leb _ _ room) at (c .before .before .answer .ensures) in
+    let e = c .before .before .answer-line .ensures in
     simp (c .before .before .before .if1 .left)
-    (e .0, (e .1 .0, put-back (a .done) (lineAnswer (a .state) (a .line .now) .text) (a .out .now) _ (e .1 .1)))
+    (e .state-after, (e .counted, put-back (a .done) (lineAnswer (a .state) (a .line .now) .text) (a .out .now) _ (e .bytes)))
 
 pub answer-at-spec : {M : Type 1} → statement M
 answer-at-spec =
