@@ -30,24 +30,31 @@ tenth = 1_844_674_407_370_955_161
 pub digit-range : (b : ℕ) → isDigit b ≡ true → (48 ≤ b) × (b ≤ 57)
 digit-range b e = let both = and-both (leb 48 b) (leb b 57) e in (leb-true 48 b (both .0), leb-true b 57 (both .1))
 
-pub next-digit : (value b : ℕ) → (isDigit b && (ltb value tenth || (eqb value tenth && leb b 53))) ≡ isNextDigit value b
-next-digit value b = digit (isDigit b) refl
-  where
-    room : (below : Bool) → ltb value tenth ≡ below → (at : Bool) → eqb value tenth ≡ at → (low : Bool) → leb b 53 ≡ low
-        → (48 ≤ b) × (b ≤ 57)
-        → (below || (at && low)) ≡ leb (appended value b) largest
-    room true v at e low l h = sym (le-leb (appended value b) largest (omega (arith, ltb-true value tenth v, h)))
-    room false v true e true l h =
-        sym (le-leb (appended value b) largest (omega (arith, eqb-true value tenth e, leb-true b 53 l, h)))
-    room false v true e false l h =
-        sym (lt-leb (appended value b) largest (omega (arith, eqb-true value tenth e, leb-false b 53 l, h)))
-    room false v false e low l h =
-        sym (lt-leb (appended value b) largest (omega (arith, ltb-false value tenth v, eqb-false value tenth e, h)))
+module _ (value b : ℕ) where
+  pub below-0 : b < 48 → false ≡ isNextDigit value b
+  below-0 h = rw (lt-leb 48 b h)
 
-    digit : (t : Bool) → isDigit b ≡ t
-        → (t && (ltb value tenth || (eqb value tenth && leb b 53))) ≡ (t && leb (appended value b) largest)
-    digit false e = refl
-    digit true e = room (ltb value tenth) refl (eqb value tenth) refl (leb b 53) refl (digit-range b e)
+  pub above-9 : 57 < b → false ≡ isNextDigit value b
+  above-9 h = rw (lt-leb b 57 h, and-false)
+
+  module _ (low : 48 ≤ b) (high : b ≤ 57) where
+    fits : (t : Bool) → leb (appended value b) largest ≡ t → t ≡ isNextDigit value b
+    fits t e = rw (le-leb 48 b low, le-leb b 57 high, e)
+
+    pub below-tenth : value < tenth → true ≡ isNextDigit value b
+    below-tenth h = fits true (le-leb (appended value b) largest (omega arith))
+
+    pub at-tenth : value ≡ tenth → leb b 53 ≡ isNextDigit value b
+    at-tenth h = fits (leb b 53) (go (leb b 53) refl)
+      where
+        go : (t : Bool) → leb b 53 ≡ t → leb (appended value b) largest ≡ leb b 53
+        go true e = le-leb (appended value b) largest (omega (arith, leb-true b 53 e)) ∙ sym e
+        go false e = lt-leb (appended value b) largest (omega (arith, leb-false b 53 e)) ∙ sym e
+
+    pub above-tenth : tenth ≤ value → (value ≡ tenth → ⊥) → false ≡ isNextDigit value b
+    above-tenth h k = fits false (lt-leb (appended value b) largest (omega (arith, k)))
+
+pub ruleset next-digit = (below-0, above-9, below-tenth, at-tenth, above-tenth)
 
 -- With a digit that passes, which the code has as `w`, the new value fits.
 module _ (value b : ℕ) (next : Bool) (test : next ≡ isNextDigit value b) (passed : not next ≡ false) where

@@ -22,9 +22,17 @@ pub enum AddressReading {
 fn is_next_digit(value: u64, byte: u8) -> bool
     ensures { λ r. ⌜ r ≡ isNextDigit value byte ⌝ }
 {
-    (b'0' <= byte)
-        & (byte <= b'9')
-        & ((value < 1844674407370955161) | ((value == 1844674407370955161) & (byte <= b'5')))
+    if byte < b'0' {
+        false
+    } else if b'9' < byte {
+        false
+    } else if value < 1844674407370955161 {
+        true
+    } else if value == 1844674407370955161 {
+        byte <= b'5'
+    } else {
+        false
+    }
 }
 
 fn wide(byte: u8) -> u64

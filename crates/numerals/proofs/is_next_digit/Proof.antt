@@ -1,4 +1,4 @@
--- `numerals::is_next_digit`: the tests of the byte and of the value.
+-- `numerals::is_next_digit`: no digit, or a digit behind a value below, at or above a tenth of 2^64 - 1.
 use Rattle.numerals.proofs.Scan.{next-digit}
 use Rattle.numerals.proofs.is_next_digit.Statement.{statement}
 use Rattle.numerals.proofs.is_next_digit.Tie as tie
@@ -6,5 +6,17 @@ use Rattle.numerals.proofs.is_next_digit.Tie as tie
 returns : tie.Need-returns
 returns c = search next-digit
 
+returns-2 : tie.Need-returns-2
+returns-2 c = search next-digit
+
+returns-3 : tie.Need-returns-3
+returns-3 c = search next-digit
+
+returns-4 : tie.Need-returns-4
+returns-4 c = search next-digit
+
+returns-5 : tie.Need-returns-5
+returns-5 c = search next-digit
+
 pub is-next-digit-spec : {M : Type 1} → statement M
-is-next-digit-spec = tie.close (tie.spec returns)
+is-next-digit-spec = tie.close (tie.spec returns returns-2 returns-3 returns-4 returns-5)
