@@ -15,6 +15,7 @@ use borrow.Author.Tests.{le-leb, lt-leb, leb-false, leb-true, ltb-true, ltb-fals
 use Rattle.rules.proofs.BytesLaws.{and-both}
 use Rattle.lines.specs.Fields.{only}
 use Rattle.lines.specs.Numbers.{isDigit, areDigits, isNumeral, valueAfter, number, largest}
+use Rattle.lines.proofs.NumberLaws.{digit-bounds}
 use Rattle.numerals.specs.Parts.{appended, isNextDigit, numberAfter, hasNumeralStart}
 
 -- Digits only add to a value.
@@ -26,9 +27,6 @@ grows n (b ∷ text) = omega (arith, grows (10 * n + (b - 48)) text)
 -- The test of a digit as the code makes it: a value below, at or above a tenth of 2^64 - 1.
 abbrev tenth : ℕ
 tenth = 1_844_674_407_370_955_161
-
-pub digit-range : (b : ℕ) → isDigit b ≡ true → (48 ≤ b) × (b ≤ 57)
-digit-range b e = let both = and-both (leb 48 b) (leb b 57) e in (leb-true 48 b (both .0), leb-true b 57 (both .1))
 
 module _ (value b : ℕ) where
   pub below-0 : b < 48 → false ≡ isNextDigit value b
@@ -61,7 +59,7 @@ module _ (value b : ℕ) (next : Bool) (test : next ≡ isNextDigit value b) (pa
   range : (48 ≤ b) × (appended value b ≤ largest)
   range =
       let both = and-both (isDigit b) (leb (appended value b) largest) (sym test ∙ not-false next passed) in
-      (digit-range b (both .0) .0, leb-true (appended value b) largest (both .1))
+      (digit-bounds b (both .0) .0, leb-true (appended value b) largest (both .1))
 
   pub tenfold-fits : Fits w64 (10 * value)
   tenfold-fits = record { fits = omega (arith, range) }

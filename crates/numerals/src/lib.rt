@@ -1,21 +1,12 @@
-// Reading numbers and IPv4 addresses: "digits 0 to 9 only, no leading zero except for 0 itself", and "four such numbers up to 255,
-// parted by dots". "Each read whole or refused whole."
-use rules::Ipv4Address;
-ghost use Prim.Native.Nat.{_+_, _*_, _<_};
+// Reading numbers: "digits 0 to 9 only, no leading zero except for 0 itself". "Each read whole or refused whole."
 ghost use mathlib.Core.Path.{_≡_};
 ghost use Rattle.lines.specs.Numbers as Numbers;
-ghost use Rattle.numerals.specs.Parts.{readingOf, addressOf, isNextDigit, numberAfter, hasNumeralStart};
+ghost use Rattle.numerals.specs.Parts.{readingOf, isNextDigit, numberAfter, hasNumeralStart};
 
 // What a text is as a number.
 pub enum Reading {
     Malformed,
     Number(u64),
-}
-
-// What a text is as an address.
-pub enum AddressReading {
-    Malformed,
-    Address(Ipv4Address),
 }
 
 // Whether a byte is a digit that keeps a value within 64 bits: 1,844,674,407,370,955,161 and a 5 make 2^64 - 1.
@@ -82,45 +73,4 @@ pub fn number(text: &[u8], most: u64) -> Reading
     } else {
         Reading::Malformed
     }
-}
-
-// One of the four numbers of an address.
-fn octet(text: &[u8]) -> Reading
-    ensures { λ r. ⌜ readingOf r ≡ Numbers.number 255 (now (text .entry)) ⌝ }
-{
-    number(text, 255)
-}
-
-// An octet behind those of a value.
-fn with_octet(value: u64, octet: u64) -> u64
-    requires { ⌜ (value < 16777216) × (octet < 256) ⌝ }
-    ensures { λ r. ⌜ r ≡ value * 256 + octet ⌝ }
-{
-    value * 256 + octet
-}
-
-// Three octets that end at dots, and a last one.
-pub fn address(text: &[u8]) -> AddressReading
-    ensures { λ r. ⌜ addressOf r ≡ Numbers.address (now (text .entry)) ⌝ }
-{
-    let mut value: u64 = 0;
-    let mut start: usize = 0;
-    let mut count: usize = 0;
-    while count < 3 {
-        let rest = &text[start..];
-        let first = fields::part(rest, b'.');
-        let Reading::Number(next) = octet(first) else {
-            return AddressReading::Malformed;
-        };
-        if first.len() == rest.len() {
-            return AddressReading::Malformed;
-        }
-        value = with_octet(value, next);
-        start += first.len() + 1;
-        count += 1;
-    }
-    let Reading::Number(last) = octet(&text[start..]) else {
-        return AddressReading::Malformed;
-    };
-    AddressReading::Address(Ipv4Address(with_octet(value, last) as u32))
 }
