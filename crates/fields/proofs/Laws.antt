@@ -7,7 +7,7 @@ use native.Mathlib.Numerals.{add-one}
 use native.Mathlib.Omega.{arith}
 use lib.Dec.{eqb, ltb}
 use lib.ListN.{length, getD, take, drop, length-drop, drop-of-length-le}
-use lib.Seq.{take-length, length-take-le, take-all, take-nil, drop-length, drop-cons, drop-drop}
+use lib.Seq.{length-take-le, take-all, take-nil, drop-length, drop-cons, drop-drop}
 use borrow.Author.Tests.{eq-eqb, lt-ltb, le-ltb, ltb-true, ltb-false}
 use Rattle.rules.specs.Bytes.{sameBytes}
 use Rattle.rules.proofs.BytesLaws.{same-equal}

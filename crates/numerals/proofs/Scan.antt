@@ -1,17 +1,17 @@
 -- Digits read one after the other: a law for each way that a function of src/ goes on or ends.
 use Prim.Native.Nat.{ℕ, suc, _+_, _-_, _*_, _<_, _≤_}
 use mathlib.Core.Path.{_≡_, refl, sym, _∙_}
-use mathlib.Core.Bool.{Bool, true, false, not, _&&_, _||_, and-true, and-false}
+use mathlib.Core.Bool.{Bool, true, false, not, _&&_, and-true, and-false}
 use mathlib.Core.List.{List, [], _∷_}
 use mathlib.Core.Option.{Option, none, some}
 use native.Mathlib.Numerals.{add-one}
 use native.Mathlib.Omega.{arith}
 use mir.Syntax.{w64}
 use mir.Val.{Fits}
-use lib.Dec.{eqb, leb, ltb}
+use lib.Dec.{eqb, leb}
 use lib.ListN.{length, getD, drop, drop-of-length-le}
 use lib.Seq.{drop-cons}
-use borrow.Author.Tests.{le-leb, lt-leb, leb-false, leb-true, ltb-true, ltb-false, ne-eqb, eqb-true, eqb-false, not-true, not-false}
+use borrow.Author.Tests.{le-leb, lt-leb, leb-false, leb-true, not-true, not-false}
 use Rattle.rules.proofs.BytesLaws.{and-both}
 use Rattle.lines.specs.Fields.{only}
 use Rattle.lines.specs.Numbers.{isDigit, areDigits, isNumeral, valueAfter, number, largest}
@@ -52,7 +52,7 @@ module _ (value b : ℕ) where
     pub above-tenth : tenth ≤ value → (value ≡ tenth → ⊥) → false ≡ isNextDigit value b
     above-tenth h k = fits false (lt-leb (appended value b) largest (omega (arith, k)))
 
-pub ruleset next-digit = (below-0, above-9, below-tenth, at-tenth, above-tenth)
+pub ruleset next-digit = (below-tenth, at-tenth, above-tenth)
 
 -- With a digit that passes, which the code has as `w`, the new value fits.
 module _ (value b : ℕ) (next : Bool) (test : next ≡ isNextDigit value b) (passed : not next ≡ false) where
@@ -115,14 +115,15 @@ module _ (text : List ℕ) (most value i : ℕ) (told : numberAfter most 0 text 
     above-most h = rw (told, drop-of-length-le text {i = i} done, lt-leb value most h)
 
 -- Before the digits: the test of the start as the code makes it, and what it comes to.
-pub empty-start : (text : List ℕ) → length text ≡ 0 → false ≡ hasNumeralStart text
-empty-start [] e = refl
-empty-start (b ∷ text) e = absurd (omega (arith, e))
+pub short-start : (text : List ℕ) → length text < 2 → eqb (length text) 1 ≡ hasNumeralStart text
+short-start [] h = refl
+short-start (b ∷ []) h = refl
+short-start (b ∷ c ∷ text) h = absurd (omega arith)
 
-pub full-start : (text : List ℕ) → (length text ≡ 0 → ⊥) → (eqb (length text) 1 || not (eqb (getD text 0 0) 48)) ≡ hasNumeralStart text
-full-start [] full = absurd (full refl)
-full-start (b ∷ []) full = refl
-full-start (b ∷ c ∷ text) full = rw (ne-eqb (suc (suc (length text))) 1 (omega arith))
+pub long-start : (text : List ℕ) → 2 ≤ length text → not (eqb (getD text 0 0) 48) ≡ hasNumeralStart text
+long-start [] h = absurd (omega arith)
+long-start (b ∷ []) h = absurd (omega arith)
+long-start (b ∷ c ∷ text) h = refl
 
 numeral : (text : List ℕ) → isNumeral text ≡ (areDigits text && hasNumeralStart text)
 unfolding areDigits

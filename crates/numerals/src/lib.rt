@@ -57,10 +57,10 @@ fn digits(text: &[u8], most: u64) -> Reading
 fn has_numeral_start(text: &[u8]) -> bool
     ensures { λ r. ⌜ r ≡ hasNumeralStart (now (text .entry)) ⌝ }
 {
-    if text.len() == 0 {
-        false
+    if text.len() < 2 {
+        text.len() == 1
     } else {
-        (text.len() == 1) | (text[0] != b'0')
+        text[0] != b'0'
     }
 }
 
