@@ -1,22 +1,23 @@
 -- Digits read one after the other: a law for each way that a function of src/ goes on or ends.
-use Prim.Native.Nat.{ℕ, suc, _+_, _-_, _*_, _<_, _≤_}
+use Prim.Native.Nat.{ℕ, suc, _+_, _-_, _*_, _^_, _<_, _≤_}
 use mathlib.Core.Path.{_≡_, refl, sym, _∙_}
 use mathlib.Core.Bool.{Bool, true, false, not, _&&_, and-true, and-false}
 use mathlib.Core.List.{List, [], _∷_}
 use mathlib.Core.Option.{Option, none, some}
+use native.Mathlib.Nat.{lt-of-lt-of-le, pow-succ', pow-le-pow-right}
 use native.Mathlib.Numerals.{add-one}
 use native.Mathlib.Omega.{arith}
 use mir.Syntax.{w64}
 use mir.Val.{Fits}
-use lib.Dec.{eqb, leb}
+use lib.Dec.{eqb, leb, ltb}
 use lib.ListN.{length, getD, drop, drop-of-length-le}
 use lib.Seq.{drop-cons}
-use borrow.Author.Tests.{le-leb, lt-leb, leb-false, leb-true, not-true, not-false}
+use borrow.Author.Tests.{le-leb, lt-leb, leb-false, leb-true, ltb-true, not-true, not-false}
 use Rattle.rules.proofs.BytesLaws.{and-both}
 use Rattle.lines.specs.Fields.{only}
 use Rattle.lines.specs.Numbers.{isDigit, areDigits, isNumeral, valueAfter, number, largest}
 use Rattle.lines.proofs.NumberLaws.{digit-bounds}
-use Rattle.numerals.specs.Parts.{appended, isNextDigit, numberAfter, hasNumeralStart}
+use Rattle.numerals.specs.Parts.{tenth, appended, isNextDigit, numberAfter, hasNumeralStart}
 
 -- Digits only add to a value.
 grows : (n : ℕ) (text : List ℕ) → n ≤ valueAfter n text
@@ -25,9 +26,6 @@ grows n [] = omega arith
 grows n (b ∷ text) = omega (arith, grows (10 * n + (b - 48)) text)
 
 -- The test of a digit as the code makes it: a value below, at or above a tenth of 2^64 - 1.
-abbrev tenth : ℕ
-tenth = 1_844_674_407_370_955_161
-
 module _ (value b : ℕ) where
   pub below-0 : b < 48 → false ≡ isNextDigit value b
   below-0 h = rw (lt-leb 48 b h)
@@ -56,10 +54,10 @@ pub ruleset next-digit = (below-tenth, at-tenth, above-tenth)
 
 -- With a digit that passes, which the code has as `w`, the new value fits.
 module _ (value b : ℕ) (next : Bool) (test : next ≡ isNextDigit value b) (passed : not next ≡ false) where
-  range : (48 ≤ b) × (appended value b ≤ largest)
+  range : ((48 ≤ b) × (b ≤ 57)) × (appended value b ≤ largest)
   range =
       let both = and-both (isDigit b) (leb (appended value b) largest) (sym test ∙ not-false next passed) in
-      (digit-bounds b (both .0) .0, leb-true (appended value b) largest (both .1))
+      (digit-bounds b (both .0), leb-true (appended value b) largest (both .1))
 
   pub tenfold-fits : Fits w64 (10 * value)
   tenfold-fits = record { fits = omega (arith, range) }
@@ -70,7 +68,17 @@ module _ (value b : ℕ) (next : Bool) (test : next ≡ isNextDigit value b) (pa
   pub sum-fits : (w : ℕ) → w ≡ b → Fits w64 (appended value w)
   sum-fits w e = record { fits = omega (arith, range) }
 
-pub ruleset next-fits = (tenfold-fits, is-from-48, sum-fits)
+  pub stays-small : (w : ℕ) → w ≡ b → (i : ℕ) → value < 10 ^ i → appended value w < 10 ^ (i + 1)
+  stays-small w e i h = rw (add-one, pow-succ') (omega (arith, range))
+
+pub ruleset next-fits = (tenfold-fits, is-from-48, sum-fits, stays-small)
+
+-- In a text of less than 20 digits there is room for the next one.
+pub short-room : (text : List ℕ) (value i : ℕ) → i < length text → value < 10 ^ i → ltb (length text) 20 ≡ true → value < tenth
+short-room text value i more small short =
+    let before : i ≤ 18 = omega (arith, ltb-true (length text) 20 short) in
+    let bound : value < 1_000_000_000_000_000_000 = lt-of-lt-of-le small (pow-le-pow-right {n = 10} (omega arith) before) in
+    omega arith
 
 -- The loop: the value is that of the digits before `i`.
 module _ (text : List ℕ) (most value i : ℕ) (told : numberAfter most 0 text ≡ numberAfter most value (drop i text)) where

@@ -20,6 +20,10 @@ appended value b = 10 * value + (b - 48)
 abbrev pub isNextDigit : ℕ → ℕ → Bool
 isNextDigit value b = isDigit b && leb (appended value b) largest
 
+-- A tenth of the largest: any digit has room behind a value below it.
+abbrev pub tenth : ℕ
+tenth = 1_844_674_407_370_955_161
+
 -- The number that digits stand for after those that stood for n, up to the largest allowed.
 unfoldable pub numberAfter : ℕ → ℕ → List ℕ → Option ℕ
 numberAfter most n text = only (areDigits text && leb (valueAfter n text) most) (valueAfter n text)
