@@ -20,9 +20,10 @@ use Rattle.machine.specs.Calls.{Call}
 use Rattle.lines.specs.Fields.{tab, parts, firstPart, _then_}
 use Rattle.lines.specs.Forms.{callOf, callIn, time, lentBuffer, freshWord, askWord, tickWord, packetWord, dropWord}
 use Rattle.lines.proofs.FieldLaws.{first-length, one-part, more-parts, first-of-parts, separated}
-use Rattle.numerals.specs.Parts.{readingOf, addressOf}
-use Rattle.numerals.specs.declared.AddressReading.{AddressReading}
-use Rattle.numerals.specs.declared.AddressReading.the-variants as AddressReading
+use Rattle.numerals.specs.Parts.{readingOf}
+use Rattle.addresses.specs.Parts.{addressOf}
+use Rattle.addresses.specs.declared.AddressReading.{AddressReading}
+use Rattle.addresses.specs.declared.AddressReading.the-variants as AddressReading
 use Rattle.hex.specs.Parts.{hardwareOf, headOf}
 use Rattle.hex.specs.declared.HardwareReading.{HardwareReading}
 use Rattle.hex.specs.declared.HardwareReading.the-variants as HardwareReading

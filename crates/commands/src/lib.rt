@@ -1,10 +1,10 @@
 // The command that a line stands for: "Forms: `fresh` hardware; `ask` time address policy draw; `tick` time draw; `packet` time
 // bytes; `drop` time slot", fields parted by one tab. The last field of a form is all that is left of the line: a tab is no
 // digit, so one field too many is refused by the last one's reader.
+use addresses::AddressReading;
 use hex::BytesReading;
 use hex::HardwareReading;
 use lines::LONGEST_LINE;
-use numerals::AddressReading;
 use numerals::Reading;
 use rules::HardwareAddress;
 use rules::Ipv4Address;
@@ -72,7 +72,7 @@ fn ask_fields(first: &[u8], second: &[u8], third: &[u8], last: &[u8]) -> Command
 {
     match numerals::number(first, LARGEST) {
         Reading::Malformed => Command::Malformed,
-        Reading::Number(time) => match numerals::address(second) {
+        Reading::Number(time) => match addresses::address(second) {
             AddressReading::Malformed => Command::Malformed,
             AddressReading::Address(address) => match numerals::number(third, LARGEST) {
                 Reading::Malformed => Command::Malformed,

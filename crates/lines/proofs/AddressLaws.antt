@@ -47,7 +47,7 @@ digits-lack separator other (b ∷ text) e =
       digits-lack separator other text digits,
     )
 
-all-lack : (bs : List ℕ) → allLack dot (map decimal bs) ≡ true
+pub all-lack : (bs : List ℕ) → allLack dot (map decimal bs) ≡ true
 all-lack [] = refl
 all-lack (b ∷ bs) = rw (digits-lack dot refl (decimal b) (decimal-digits b), all-lack bs)
 

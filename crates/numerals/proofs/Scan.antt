@@ -1,9 +1,10 @@
 -- Digits read one after the other: a law for each way that a function of src/ goes on or ends.
-use Prim.Native.Nat.{ℕ, suc, _+_, _-_, _*_, _<_, _≤_}
+use Prim.Native.Nat.{ℕ, suc, _+_, _-_, _*_, _^_, _<_, _≤_}
 use mathlib.Core.Path.{_≡_, refl, sym, _∙_}
-use mathlib.Core.Bool.{Bool, true, false, not, _&&_, _||_, and-true, and-false}
+use mathlib.Core.Bool.{Bool, true, false, not, _&&_, and-true, and-false}
 use mathlib.Core.List.{List, [], _∷_}
 use mathlib.Core.Option.{Option, none, some}
+use native.Mathlib.Nat.{lt-of-lt-of-le, pow-succ', pow-le-pow-right}
 use native.Mathlib.Numerals.{add-one}
 use native.Mathlib.Omega.{arith}
 use mir.Syntax.{w64}
@@ -11,11 +12,12 @@ use mir.Val.{Fits}
 use lib.Dec.{eqb, leb, ltb}
 use lib.ListN.{length, getD, drop, drop-of-length-le}
 use lib.Seq.{drop-cons}
-use borrow.Author.Tests.{le-leb, lt-leb, leb-false, leb-true, ltb-true, ltb-false, ne-eqb, eqb-true, eqb-false, not-true, not-false}
+use borrow.Author.Tests.{le-leb, lt-leb, leb-false, leb-true, ltb-true, not-true, not-false}
 use Rattle.rules.proofs.BytesLaws.{and-both}
 use Rattle.lines.specs.Fields.{only}
 use Rattle.lines.specs.Numbers.{isDigit, areDigits, isNumeral, valueAfter, number, largest}
-use Rattle.numerals.specs.Parts.{appended, isNextDigit, numberAfter, hasNumeralStart}
+use Rattle.lines.proofs.NumberLaws.{digit-bounds}
+use Rattle.numerals.specs.Parts.{tenth, appended, isNextDigit, numberAfter, hasNumeralStart}
 
 -- Digits only add to a value.
 grows : (n : ℕ) (text : List ℕ) → n ≤ valueAfter n text
@@ -24,37 +26,38 @@ grows n [] = omega arith
 grows n (b ∷ text) = omega (arith, grows (10 * n + (b - 48)) text)
 
 -- The test of a digit as the code makes it: a value below, at or above a tenth of 2^64 - 1.
-abbrev tenth : ℕ
-tenth = 1_844_674_407_370_955_161
+module _ (value b : ℕ) where
+  pub below-0 : b < 48 → false ≡ isNextDigit value b
+  below-0 h = rw (lt-leb 48 b h)
 
-pub digit-range : (b : ℕ) → isDigit b ≡ true → (48 ≤ b) × (b ≤ 57)
-digit-range b e = let both = and-both (leb 48 b) (leb b 57) e in (leb-true 48 b (both .0), leb-true b 57 (both .1))
+  pub above-9 : 57 < b → false ≡ isNextDigit value b
+  above-9 h = rw (lt-leb b 57 h, and-false)
 
-pub next-digit : (value b : ℕ) → (isDigit b && (ltb value tenth || (eqb value tenth && leb b 53))) ≡ isNextDigit value b
-next-digit value b = digit (isDigit b) refl
-  where
-    room : (below : Bool) → ltb value tenth ≡ below → (at : Bool) → eqb value tenth ≡ at → (low : Bool) → leb b 53 ≡ low
-        → (48 ≤ b) × (b ≤ 57)
-        → (below || (at && low)) ≡ leb (appended value b) largest
-    room true v at e low l h = sym (le-leb (appended value b) largest (omega (arith, ltb-true value tenth v, h)))
-    room false v true e true l h =
-        sym (le-leb (appended value b) largest (omega (arith, eqb-true value tenth e, leb-true b 53 l, h)))
-    room false v true e false l h =
-        sym (lt-leb (appended value b) largest (omega (arith, eqb-true value tenth e, leb-false b 53 l, h)))
-    room false v false e low l h =
-        sym (lt-leb (appended value b) largest (omega (arith, ltb-false value tenth v, eqb-false value tenth e, h)))
+  module _ (low : 48 ≤ b) (high : b ≤ 57) where
+    fits : (t : Bool) → leb (appended value b) largest ≡ t → t ≡ isNextDigit value b
+    fits t e = rw (le-leb 48 b low, le-leb b 57 high, e)
 
-    digit : (t : Bool) → isDigit b ≡ t
-        → (t && (ltb value tenth || (eqb value tenth && leb b 53))) ≡ (t && leb (appended value b) largest)
-    digit false e = refl
-    digit true e = room (ltb value tenth) refl (eqb value tenth) refl (leb b 53) refl (digit-range b e)
+    pub below-tenth : value < tenth → true ≡ isNextDigit value b
+    below-tenth h = fits true (le-leb (appended value b) largest (omega arith))
+
+    pub at-tenth : value ≡ tenth → leb b 53 ≡ isNextDigit value b
+    at-tenth h = fits (leb b 53) (go (leb b 53) refl)
+      where
+        go : (t : Bool) → leb b 53 ≡ t → leb (appended value b) largest ≡ leb b 53
+        go true e = le-leb (appended value b) largest (omega (arith, leb-true b 53 e)) ∙ sym e
+        go false e = lt-leb (appended value b) largest (omega (arith, leb-false b 53 e)) ∙ sym e
+
+    pub above-tenth : tenth ≤ value → (value ≡ tenth → ⊥) → false ≡ isNextDigit value b
+    above-tenth h k = fits false (lt-leb (appended value b) largest (omega (arith, k)))
+
+pub ruleset next-digit = (below-tenth, at-tenth, above-tenth)
 
 -- With a digit that passes, which the code has as `w`, the new value fits.
 module _ (value b : ℕ) (next : Bool) (test : next ≡ isNextDigit value b) (passed : not next ≡ false) where
-  range : (48 ≤ b) × (appended value b ≤ largest)
+  range : ((48 ≤ b) × (b ≤ 57)) × (appended value b ≤ largest)
   range =
       let both = and-both (isDigit b) (leb (appended value b) largest) (sym test ∙ not-false next passed) in
-      (digit-range b (both .0) .0, leb-true (appended value b) largest (both .1))
+      (digit-bounds b (both .0), leb-true (appended value b) largest (both .1))
 
   pub tenfold-fits : Fits w64 (10 * value)
   tenfold-fits = record { fits = omega (arith, range) }
@@ -65,7 +68,17 @@ module _ (value b : ℕ) (next : Bool) (test : next ≡ isNextDigit value b) (pa
   pub sum-fits : (w : ℕ) → w ≡ b → Fits w64 (appended value w)
   sum-fits w e = record { fits = omega (arith, range) }
 
-pub ruleset next-fits = (tenfold-fits, is-from-48, sum-fits)
+  pub stays-small : (w : ℕ) → w ≡ b → (i : ℕ) → value < 10 ^ i → appended value w < 10 ^ (i + 1)
+  stays-small w e i h = rw (add-one, pow-succ') (omega (arith, range))
+
+pub ruleset next-fits = (tenfold-fits, is-from-48, sum-fits, stays-small)
+
+-- In a text of less than 20 digits there is room for the next one.
+pub short-room : (text : List ℕ) (value i : ℕ) → i < length text → value < 10 ^ i → ltb (length text) 20 ≡ true → value < tenth
+short-room text value i more small short =
+    let before : i ≤ 18 = omega (arith, ltb-true (length text) 20 short) in
+    let bound : value < 1_000_000_000_000_000_000 = lt-of-lt-of-le small (pow-le-pow-right {n = 10} (omega arith) before) in
+    omega arith
 
 -- The loop: the value is that of the digits before `i`.
 module _ (text : List ℕ) (most value i : ℕ) (told : numberAfter most 0 text ≡ numberAfter most value (drop i text)) where
@@ -110,14 +123,15 @@ module _ (text : List ℕ) (most value i : ℕ) (told : numberAfter most 0 text 
     above-most h = rw (told, drop-of-length-le text {i = i} done, lt-leb value most h)
 
 -- Before the digits: the test of the start as the code makes it, and what it comes to.
-pub empty-start : (text : List ℕ) → length text ≡ 0 → false ≡ hasNumeralStart text
-empty-start [] e = refl
-empty-start (b ∷ text) e = absurd (omega (arith, e))
+pub short-start : (text : List ℕ) → length text < 2 → eqb (length text) 1 ≡ hasNumeralStart text
+short-start [] h = refl
+short-start (b ∷ []) h = refl
+short-start (b ∷ c ∷ text) h = absurd (omega arith)
 
-pub full-start : (text : List ℕ) → (length text ≡ 0 → ⊥) → (eqb (length text) 1 || not (eqb (getD text 0 0) 48)) ≡ hasNumeralStart text
-full-start [] full = absurd (full refl)
-full-start (b ∷ []) full = refl
-full-start (b ∷ c ∷ text) full = rw (ne-eqb (suc (suc (length text))) 1 (omega arith))
+pub long-start : (text : List ℕ) → 2 ≤ length text → not (eqb (getD text 0 0) 48) ≡ hasNumeralStart text
+long-start [] h = absurd (omega arith)
+long-start (b ∷ []) h = absurd (omega arith)
+long-start (b ∷ c ∷ text) h = refl
 
 numeral : (text : List ℕ) → isNumeral text ≡ (areDigits text && hasNumeralStart text)
 unfolding areDigits

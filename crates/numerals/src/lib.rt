@@ -1,10 +1,9 @@
-// Reading numbers and IPv4 addresses: "digits 0 to 9 only, no leading zero except for 0 itself", and "four such numbers up to 255,
-// parted by dots". "Each read whole or refused whole."
-use rules::Ipv4Address;
-ghost use Prim.Native.Nat.{_+_, _*_, _<_};
+// Reading numbers: "digits 0 to 9 only, no leading zero except for 0 itself". "Each read whole or refused whole."
+ghost use Prim.Native.Nat.{_<_};
 ghost use mathlib.Core.Path.{_≡_};
+ghost use mathlib.Core.Bool.{true};
 ghost use Rattle.lines.specs.Numbers as Numbers;
-ghost use Rattle.numerals.specs.Parts.{readingOf, addressOf, isNextDigit, numberAfter, hasNumeralStart};
+ghost use Rattle.numerals.specs.Parts.{readingOf, tenth, isNextDigit, numberAfter, hasNumeralStart};
 
 // What a text is as a number.
 pub enum Reading {
@@ -12,19 +11,25 @@ pub enum Reading {
     Number(u64),
 }
 
-// What a text is as an address.
-pub enum AddressReading {
-    Malformed,
-    Address(Ipv4Address),
-}
-
 // Whether a byte is a digit that keeps a value within 64 bits: 1,844,674,407,370,955,161 and a 5 make 2^64 - 1.
-fn is_next_digit(value: u64, byte: u8) -> bool
+// In a short text every digit does.
+fn is_next_digit(short: bool, value: u64, byte: u8) -> bool
+    requires { ⌜ (short ≡ true → value < tenth) ⌝ }
     ensures { λ r. ⌜ r ≡ isNextDigit value byte ⌝ }
 {
-    (b'0' <= byte)
-        & (byte <= b'9')
-        & ((value < 1844674407370955161) | ((value == 1844674407370955161) & (byte <= b'5')))
+    if byte < b'0' {
+        false
+    } else if b'9' < byte {
+        false
+    } else if short {
+        true
+    } else if value < 1844674407370955161 {
+        true
+    } else if value == 1844674407370955161 {
+        byte <= b'5'
+    } else {
+        false
+    }
 }
 
 fn wide(byte: u8) -> u64
@@ -37,11 +42,12 @@ fn wide(byte: u8) -> u64
 fn digits(text: &[u8], most: u64) -> Reading
     ensures { λ r. ⌜ readingOf r ≡ numberAfter most 0 (now (text .entry)) ⌝ }
 {
+    let short = text.len() < 20;
     let mut value: u64 = 0;
     let mut i: usize = 0;
     while i < text.len() {
         let byte = text[i];
-        if !is_next_digit(value, byte) {
+        if !is_next_digit(short, value, byte) {
             return Reading::Malformed;
         }
         value = 10 * value + (wide(byte) - 48);
@@ -58,10 +64,10 @@ fn digits(text: &[u8], most: u64) -> Reading
 fn has_numeral_start(text: &[u8]) -> bool
     ensures { λ r. ⌜ r ≡ hasNumeralStart (now (text .entry)) ⌝ }
 {
-    if text.len() == 0 {
-        false
+    if text.len() < 2 {
+        text.len() == 1
     } else {
-        (text.len() == 1) | (text[0] != b'0')
+        text[0] != b'0'
     }
 }
 
@@ -74,45 +80,4 @@ pub fn number(text: &[u8], most: u64) -> Reading
     } else {
         Reading::Malformed
     }
-}
-
-// One of the four numbers of an address.
-fn octet(text: &[u8]) -> Reading
-    ensures { λ r. ⌜ readingOf r ≡ Numbers.number 255 (now (text .entry)) ⌝ }
-{
-    number(text, 255)
-}
-
-// An octet behind those of a value.
-fn with_octet(value: u64, octet: u64) -> u64
-    requires { ⌜ (value < 16777216) × (octet < 256) ⌝ }
-    ensures { λ r. ⌜ r ≡ value * 256 + octet ⌝ }
-{
-    value * 256 + octet
-}
-
-// Three octets that end at dots, and a last one.
-pub fn address(text: &[u8]) -> AddressReading
-    ensures { λ r. ⌜ addressOf r ≡ Numbers.address (now (text .entry)) ⌝ }
-{
-    let mut value: u64 = 0;
-    let mut start: usize = 0;
-    let mut count: usize = 0;
-    while count < 3 {
-        let rest = &text[start..];
-        let first = fields::part(rest, b'.');
-        let Reading::Number(next) = octet(first) else {
-            return AddressReading::Malformed;
-        };
-        if first.len() == rest.len() {
-            return AddressReading::Malformed;
-        }
-        value = with_octet(value, next);
-        start += first.len() + 1;
-        count += 1;
-    }
-    let Reading::Number(last) = octet(&text[start..]) else {
-        return AddressReading::Malformed;
-    };
-    AddressReading::Address(Ipv4Address(with_octet(value, last) as u32))
 }

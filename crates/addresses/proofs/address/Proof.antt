@@ -1,14 +1,14 @@
--- `numerals::address`: `count` octets stand before `start`, and make the value.
+-- `addresses::address`: `count` octets stand before `start`, and make the value.
 use Prim.Native.Nat.{_-_, _^_, _≤_, _<_}
 use mathlib.Core.Path.{_≡_}
 use lib.ListN.{length, drop}
 use borrow.Author.Needs.{needs}
 use Rattle.lines.specs.Fields.{dot, parts}
 use Rattle.lines.specs.Numbers.{address}
-use Rattle.numerals.specs.Parts.{addressAfter}
-use Rattle.numerals.proofs.Dotted.{begins, to-end, next-start, value-fits, part-last, part-malformed, part-number, last-malformed, last-number}
-use Rattle.numerals.proofs.address.Statement.{statement}
-use Rattle.numerals.proofs.address.Tie as tie
+use Rattle.addresses.specs.Parts.{addressAfter}
+use Rattle.addresses.proofs.Dotted.{begins, to-end, next-start, value-fits, part-last, part-malformed, part-number, last-malformed, last-number}
+use Rattle.addresses.proofs.address.Statement.{statement}
+use Rattle.addresses.proofs.address.Tie as tie
 
 abbrev Inv-loop : tie.InvT-loop
 Inv-loop text value₀ start₀ count₀ value start count =

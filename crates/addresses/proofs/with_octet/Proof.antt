@@ -1,7 +1,7 @@
--- `numerals::with_octet`: the octets of the value, then this one.
+-- `addresses::with_octet`: the octets of the value, then this one.
 use borrow.Author.Needs.{needs}
-use Rattle.numerals.proofs.with_octet.Statement.{statement}
-use Rattle.numerals.proofs.with_octet.Tie as tie
+use Rattle.addresses.proofs.with_octet.Statement.{statement}
+use Rattle.addresses.proofs.with_octet.Tie as tie
 
 returns : tie.Need-returns
 returns c = search needs

@@ -1,7 +1,7 @@
 -- The octets of an address read one after the other: a law for each way that `address` goes on or ends.
 use Prim.Native.Nat.{ℕ, suc, _+_, _-_, _*_, _^_, _<_, _≤_}
 use mathlib.Core.Path.{_≡_, refl, ap, ap₂, sym, _∙_}
-use mathlib.Core.Bool.{Bool, true, false, not, _&&_, _||_}
+use mathlib.Core.Bool.{Bool, true, false}
 use mathlib.Core.List.{List, [], _∷_}
 use mathlib.Core.Option.{Option, none, some}
 use native.Mathlib.Nat.{lt-of-lt-of-le, pow-succ', mul-comm, pow-le-pow-right, mul-assoc, add-mul, add-assoc, zero-add, zero-mul, mul-one, add-zero}
@@ -9,21 +9,23 @@ use native.Mathlib.Numerals.{add-one}
 use native.Mathlib.Omega.{arith}
 use mir.Syntax.{w32, w64}
 use mir.Val.{Fits}
-use lib.Dec.{eqb, leb, ltb}
+use lib.Dec.{eqb, ltb}
 use lib.ListN.{length, take, drop, length-drop}
 use lib.Seq.{take-all, drop-drop}
 use lib.Arith.{digits-lt}
-use borrow.Author.Tests.{ne-eqb, leb-true, ltb-true, ltb-false}
+use borrow.Author.Tests.{ne-eqb, ltb-true, ltb-false}
 use Rattle.rules.specs.Bytes.{numberOf}
 use Rattle.rules.specs.declared.Ipv4Address.{Ipv4Address}
-use Rattle.rules.proofs.BytesLaws.{and-both}
 use Rattle.lines.specs.Fields.{dot, parts, firstPart, only, _then_}
-use Rattle.lines.specs.Numbers.{isDigit, areDigits, isEmpty, isNumeral, valueAfter, number, each, address}
+use Rattle.lines.specs.Numbers.{number, each, address, decimal}
 use Rattle.lines.proofs.FieldLaws.{first-of-parts, first-length, one-part, more-parts}
-use Rattle.numerals.specs.Parts.{readingOf, completed, addressAfter}
+use Rattle.lines.proofs.PartLaws.{joined, parts-joined}
+use Rattle.lines.proofs.NumberLaws.{number-exact, number-at-most}
+use Rattle.lines.proofs.AddressLaws.{all-lack}
+use Rattle.numerals.specs.Parts.{readingOf}
 use Rattle.numerals.specs.declared.Reading.{Reading}
 use Rattle.numerals.specs.declared.Reading.the-variants.{Malformed, Number}
-use Rattle.numerals.proofs.Scan.{digit-range}
+use Rattle.addresses.specs.Parts.{completed, addressAfter}
 
 -- Before the first octet.
 pub begins : (text : List ℕ) → address text ≡ addressAfter 0 0 (parts dot text)
@@ -70,33 +72,10 @@ four : (value : ℕ) → addressAfter 4 value [] ≡ some (record { 0 = value })
 unfolding addressAfter each
 four value = simp (mul-one, add-zero)
 
--- A number read: its text is digits, no dot among them, and it is not above the most allowed.
-only-some : {A : Type 0} (t : Bool) (a b : A) → only t a ≡ some b → (t ≡ true) × (a ≡ b)
-only-some true a b e = (refl, cc)
-only-some false a b e = (cc, cc)
-
-numeral-digits : (text : List ℕ) → isNumeral text ≡ true → areDigits text ≡ true
-numeral-digits [] e = cc
-numeral-digits (b ∷ text) e = and-both (areDigits (b ∷ text)) (isEmpty text || not (eqb b 48)) e .0
-
-module _ (most n : ℕ) (text : List ℕ) (read : number most text ≡ some n) where
-  form : (isNumeral text && leb (valueAfter 0 text) most ≡ true) × (valueAfter 0 text ≡ n)
-  unfolding number
-  form = only-some (isNumeral text && leb (valueAfter 0 text) most) (valueAfter 0 text) n read
-
-  number-digits : areDigits text ≡ true
-  number-digits = numeral-digits text (and-both (isNumeral text) (leb (valueAfter 0 text) most) (form .0) .0)
-
-  number-most : n ≤ most
-  number-most =
-      omega (arith, leb-true (valueAfter 0 text) most (and-both (isNumeral text) (leb (valueAfter 0 text) most) (form .0) .1), form .1)
-
-digits-one-part : (text : List ℕ) → areDigits text ≡ true → parts dot text ≡ text ∷ []
-unfolding areDigits parts
-digits-one-part [] e = refl
-digits-one-part (b ∷ text) e =
-    let both = and-both (isDigit b) (areDigits text) e in
-    rw (ne-eqb b dot (omega (arith, digit-range b (both .0))), digits-one-part text (both .1))
+-- A number read has no dot.
+number-one-part : (n : ℕ) (text : List ℕ) → number 255 text ≡ some n → parts dot text ≡ text ∷ []
+unfolding joined
+number-one-part n text read = rw (number-exact 255 text n (omega arith) read) (parts-joined dot (decimal n) [] (all-lack (n ∷ [])))
 
 -- The rest of a text as the code lends it.
 pub to-end : (start : ℕ) (text : List ℕ) → take (length text - start) (drop start text) ≡ drop start text
@@ -178,7 +157,7 @@ module _ (text : List ℕ) (count value start : ℕ) (rest : List ℕ) (behind :
         let all : count + 1 ≡ 4 = omega arith in
         sym
         (left
-        ∙ ap (addressAfter count value) (digits-one-part rest (number-digits 255 n rest is))
+        ∙ ap (addressAfter count value) (number-one-part n rest is)
         ∙ taken count value rest [] n is
         ∙ ap₂ (λ k v. addressAfter k v []) all (sym made)
         ∙ four new)
@@ -190,7 +169,7 @@ module _ (count value : ℕ) (three : count ≤ 3) (small : value < 256 ^ count)
 
   module _ (text : List ℕ) (reading : Reading) (read : readingOf reading ≡ number 255 text) (n : ℕ) (is : reading ≡ Number n) where
     pub octet-bound : n < 256
-    octet-bound = omega (arith, number-most 255 n text (sym read ∙ ap readingOf is))
+    octet-bound = omega (arith, number-at-most 255 text n (sym read ∙ ap readingOf is))
 
     module _ (new : ℕ) (made : new ≡ value * 256 + n) where
       pub new-fits : Fits w32 new

@@ -1,7 +1,7 @@
--- `numerals::octet`: a number up to 255.
+-- `addresses::octet`: a number up to 255.
 use borrow.Author.Needs.{needs}
-use Rattle.numerals.proofs.octet.Statement.{statement}
-use Rattle.numerals.proofs.octet.Tie as tie
+use Rattle.addresses.proofs.octet.Statement.{statement}
+use Rattle.addresses.proofs.octet.Tie as tie
 
 returns : tie.Need-returns
 returns c = search needs

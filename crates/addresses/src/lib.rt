@@ -1,0 +1,55 @@
+// Reading IPv4 addresses: "four such numbers up to 255, parted by dots". "Each read whole or refused whole."
+use numerals::Reading;
+use rules::Ipv4Address;
+ghost use Prim.Native.Nat.{_+_, _*_, _<_};
+ghost use mathlib.Core.Path.{_≡_};
+ghost use Rattle.lines.specs.Numbers as Numbers;
+ghost use Rattle.numerals.specs.Parts.{readingOf};
+ghost use Rattle.addresses.specs.Parts.{addressOf};
+
+// What a text is as an address.
+pub enum AddressReading {
+    Malformed,
+    Address(Ipv4Address),
+}
+
+// One of the four numbers of an address.
+fn octet(text: &[u8]) -> Reading
+    ensures { λ r. ⌜ readingOf r ≡ Numbers.number 255 (now (text .entry)) ⌝ }
+{
+    numerals::number(text, 255)
+}
+
+// An octet behind those of a value.
+fn with_octet(value: u64, octet: u64) -> u64
+    requires { ⌜ (value < 16777216) × (octet < 256) ⌝ }
+    ensures { λ r. ⌜ r ≡ value * 256 + octet ⌝ }
+{
+    value * 256 + octet
+}
+
+// Three octets that end at dots, and a last one.
+pub fn address(text: &[u8]) -> AddressReading
+    ensures { λ r. ⌜ addressOf r ≡ Numbers.address (now (text .entry)) ⌝ }
+{
+    let mut value: u64 = 0;
+    let mut start: usize = 0;
+    let mut count: usize = 0;
+    while count < 3 {
+        let rest = &text[start..];
+        let first = fields::part(rest, b'.');
+        let Reading::Number(next) = octet(first) else {
+            return AddressReading::Malformed;
+        };
+        if first.len() == rest.len() {
+            return AddressReading::Malformed;
+        }
+        value = with_octet(value, next);
+        start += first.len() + 1;
+        count += 1;
+    }
+    let Reading::Number(last) = octet(&text[start..]) else {
+        return AddressReading::Malformed;
+    };
+    AddressReading::Address(Ipv4Address(with_octet(value, last) as u32))
+}

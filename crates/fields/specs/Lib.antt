@@ -1,0 +1,2 @@
+-- What the functions of src/ search for.
+pub mod Places
