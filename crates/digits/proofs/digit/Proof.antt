@@ -1,7 +1,7 @@
--- `answers::digit`: it is below 10, so that the sum fits.
+-- `digits::digit`: it is below 10, so that the sum fits.
 use borrow.Author.Needs.{needs}
-use Rattle.answers.proofs.digit.Statement.{statement}
-use Rattle.answers.proofs.digit.Tie as tie
+use Rattle.digits.proofs.digit.Statement.{statement}
+use Rattle.digits.proofs.digit.Tie as tie
 
 returns : tie.Need-returns
 returns c = search needs

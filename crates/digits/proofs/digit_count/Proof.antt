@@ -1,4 +1,4 @@
--- `answers::digit_count`: the digits counted and those of the rest are all.
+-- `digits::digit_count`: the digits counted and those of the rest are all.
 use Prim.Native.Nat.{_+_, _≤_}
 use mathlib.Core.Path.{_≡_}
 use native.Mathlib.Omega.{arith}
@@ -6,9 +6,9 @@ use lib.ListN.{length}
 use borrow.Author.Needs.{needs}
 use Rattle.lines.specs.Numbers.{decimal}
 use Rattle.lines.proofs.NumberLaws.{decimal-at-most}
-use Rattle.answers.proofs.Digits.{one-digit, two-digits, two-more}
-use Rattle.answers.proofs.digit_count.Statement.{statement}
-use Rattle.answers.proofs.digit_count.Tie as tie
+use Rattle.digits.proofs.Digits.{one-digit, two-digits, two-more}
+use Rattle.digits.proofs.digit_count.Statement.{statement}
+use Rattle.digits.proofs.digit_count.Tie as tie
 
 abbrev Inv-loop : tie.InvT-loop
 Inv-loop n count₀ rest₀ count rest = (count + length (decimal rest) ≡ length (decimal n)) × (rest ≤ n)

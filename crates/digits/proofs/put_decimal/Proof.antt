@@ -1,4 +1,4 @@
--- `answers::put_decimal`: what is left of the number makes the whole.
+-- `digits::put_decimal`: what is left of the number makes the whole.
 use Prim.Native.Nat.{ℕ, _+_, _^_, _≤_, _<_}
 use mathlib.Core.Path.{_≡_, refl, ap}
 use native.Mathlib.Omega.{arith}
@@ -7,10 +7,10 @@ use lib.Seq.{sets}
 use borrow.Author.Needs.{needs}
 use Rattle.lines.specs.Numbers.{decimal}
 use Rattle.lines.proofs.NumberLaws.{decimal-at-most}
-use Rattle.answers.proofs.Digits.{two-more}
-use Rattle.answers.proofs.Puts.{one-done, two-done, two-again}
-use Rattle.answers.proofs.put_decimal.Statement.{statement}
-use Rattle.answers.proofs.put_decimal.Tie as tie
+use Rattle.digits.proofs.Digits.{two-more}
+use Rattle.digits.proofs.Puts.{one-done, two-done, two-again}
+use Rattle.digits.proofs.put_decimal.Statement.{statement}
+use Rattle.digits.proofs.put_decimal.Tie as tie
 
 abbrev Inv-loop : tie.InvT-loop
 Inv-loop n out₀ at end i₀ rest₀ out i rest =

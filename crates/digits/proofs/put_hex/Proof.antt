@@ -1,4 +1,4 @@
--- `answers::put_hex`: what is left of the bytes makes the whole.
+-- `digits::put_hex`: what is left of the bytes makes the whole.
 use Prim.Native.Nat.{_+_, _-_, _*_, _≤_}
 use mathlib.Core.Path.{_≡_, refl}
 use native.Mathlib.Nat.{add-zero}
@@ -8,9 +8,9 @@ use lib.Seq.{sets}
 use borrow.Author.Needs.{needs}
 use Rattle.lines.specs.Numbers.{hexText}
 use Rattle.lines.proofs.HexLaws.{hex-length}
-use Rattle.answers.proofs.Puts.{hex-again, hex-done}
-use Rattle.answers.proofs.put_hex.Statement.{statement}
-use Rattle.answers.proofs.put_hex.Tie as tie
+use Rattle.digits.proofs.Puts.{hex-again, hex-done}
+use Rattle.digits.proofs.put_hex.Statement.{statement}
+use Rattle.digits.proofs.put_hex.Tie as tie
 
 abbrev Inv-loop : tie.InvT-loop
 Inv-loop bytes out₀ at i₀ out i =

@@ -1,8 +1,8 @@
--- `answers::hex_glyph`: a digit below 10, or a letter.
+-- `digits::hex_glyph`: a digit below 10, or a letter.
 use borrow.Author.Tests.{lt-ltb, le-ltb}
 use borrow.Author.Needs.{needs}
-use Rattle.answers.proofs.hex_glyph.Statement.{statement}
-use Rattle.answers.proofs.hex_glyph.Tie as tie
+use Rattle.digits.proofs.hex_glyph.Statement.{statement}
+use Rattle.digits.proofs.hex_glyph.Tie as tie
 
 returns : tie.Need-returns
 returns c = search (needs, lt-ltb)
