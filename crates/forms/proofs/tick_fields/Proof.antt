@@ -1,8 +1,8 @@
--- `commands::tick_fields`.
+-- `forms::tick_fields`.
 use borrow.Author.Needs.{needs}
-use Rattle.commands.proofs.Laws.{draw-fits, read-none, read-some, tick-made, tick-no-draw, tick-no-time}
-use Rattle.commands.proofs.tick_fields.Statement.{statement}
-use Rattle.commands.proofs.tick_fields.Tie as tie
+use Rattle.forms.proofs.Laws.{draw-fits, read-none, read-some, tick-made, tick-no-draw, tick-no-time}
+use Rattle.forms.proofs.tick_fields.Statement.{statement}
+use Rattle.forms.proofs.tick_fields.Tie as tie
 
 narrow-requires : tie.Need-narrow-requires
 narrow-requires c κs = search (draw-fits, needs)

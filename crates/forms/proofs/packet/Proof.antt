@@ -1,8 +1,8 @@
--- `commands::packet`: the first field, and what is left of the line.
+-- `forms::packet`: the first field, and what is left of the line.
 use borrow.Author.Needs.{needs}
-use Rattle.commands.proofs.Laws.{packet-alone, packet-split}
-use Rattle.commands.proofs.packet.Statement.{statement}
-use Rattle.commands.proofs.packet.Tie as tie
+use Rattle.forms.proofs.Laws.{packet-alone, packet-split}
+use Rattle.forms.proofs.packet.Statement.{statement}
+use Rattle.forms.proofs.packet.Tie as tie
 
 returns : tie.Need-returns
 returns c = search packet-split

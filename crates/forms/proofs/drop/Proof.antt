@@ -1,8 +1,8 @@
--- `commands::drop`: the first field, and what is left of the line.
+-- `forms::drop`: the first field, and what is left of the line.
 use borrow.Author.Needs.{needs}
-use Rattle.commands.proofs.Laws.{drop-alone, drop-split}
-use Rattle.commands.proofs.drop.Statement.{statement}
-use Rattle.commands.proofs.drop.Tie as tie
+use Rattle.forms.proofs.Laws.{drop-alone, drop-split}
+use Rattle.forms.proofs.drop.Statement.{statement}
+use Rattle.forms.proofs.drop.Tie as tie
 
 returns : tie.Need-returns
 returns c = search drop-split

@@ -1,8 +1,8 @@
--- `commands::fresh`.
+-- `forms::fresh`.
 use borrow.Author.Needs.{needs}
-use Rattle.commands.proofs.Laws.{fresh-made, fresh-none}
-use Rattle.commands.proofs.fresh.Statement.{statement}
-use Rattle.commands.proofs.fresh.Tie as tie
+use Rattle.forms.proofs.Laws.{fresh-made, fresh-none}
+use Rattle.forms.proofs.fresh.Statement.{statement}
+use Rattle.forms.proofs.fresh.Tie as tie
 
 returns : tie.Need-returns
 returns c = search fresh-none

@@ -1,4 +1,4 @@
--- What the functions here promise one another: a command as a call, and each form's call from its fields.
+-- What the forms promise: a command as a call, and each form's call from its fields.
 use Prim.Native.Nat.{ℕ}
 use mathlib.Core.Path.{_≡_}
 use mathlib.Core.Bool.{cond}
@@ -11,8 +11,8 @@ use Rattle.machine.specs.Calls.{Call}
 use Rattle.lines.specs.Fields.{_then_}
 use Rattle.lines.specs.Numbers.{number, largest, largestDraw, address, bytes, hardware}
 use Rattle.lines.specs.Forms.{field, time, lentBuffer, freshWord, askWord, tickWord, packetWord, dropWord}
-use Rattle.commands.specs.declared.Command.{Command}
-use Rattle.commands.specs.declared.Command.the-variants as Command
+use Rattle.forms.specs.declared.Command.{Command}
+use Rattle.forms.specs.declared.Command.the-variants as Command
 
 -- The call that a command stands for; a packet's bytes stand at the start of a buffer.
 abbrev pub commandCall : Command → List ℕ → Option Call

@@ -1,8 +1,8 @@
--- `commands::drop_fields`.
+-- `forms::drop_fields`.
 use borrow.Author.Needs.{needs}
-use Rattle.commands.proofs.Laws.{drop-made, drop-no-slot, drop-no-time, read-none, read-some}
-use Rattle.commands.proofs.drop_fields.Statement.{statement}
-use Rattle.commands.proofs.drop_fields.Tie as tie
+use Rattle.forms.proofs.Laws.{drop-made, drop-no-slot, drop-no-time, read-none, read-some}
+use Rattle.forms.proofs.drop_fields.Statement.{statement}
+use Rattle.forms.proofs.drop_fields.Tie as tie
 
 returns : tie.Need-returns
 returns c = search (drop-no-time, read-none)

@@ -1,8 +1,8 @@
--- `commands::tick`: the first field, and what is left of the line.
+-- `forms::tick`: the first field, and what is left of the line.
 use borrow.Author.Needs.{needs}
-use Rattle.commands.proofs.Laws.{tick-alone, tick-split}
-use Rattle.commands.proofs.tick.Statement.{statement}
-use Rattle.commands.proofs.tick.Tie as tie
+use Rattle.forms.proofs.Laws.{tick-alone, tick-split}
+use Rattle.forms.proofs.tick.Statement.{statement}
+use Rattle.forms.proofs.tick.Tie as tie
 
 returns : tie.Need-returns
 returns c = search tick-split

@@ -1,8 +1,8 @@
--- `commands::packet_fields`.
+-- `forms::packet_fields`.
 use borrow.Author.Needs.{needs}
-use Rattle.commands.proofs.Laws.{packet-made, packet-no-bytes, packet-no-time, read-none, read-some}
-use Rattle.commands.proofs.packet_fields.Statement.{statement}
-use Rattle.commands.proofs.packet_fields.Tie as tie
+use Rattle.forms.proofs.Laws.{packet-made, packet-no-bytes, packet-no-time, read-none, read-some}
+use Rattle.forms.proofs.packet_fields.Statement.{statement}
+use Rattle.forms.proofs.packet_fields.Tie as tie
 
 returns : tie.Need-returns
 returns c = search (packet-no-time, read-none)
