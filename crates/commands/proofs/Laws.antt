@@ -13,7 +13,7 @@ use Rattle.rules.specs.declared.Ipv4Address.{Ipv4Address}
 use Rattle.machine.specs.Calls.{Call}
 use Rattle.lines.specs.Fields.{tab, parts, firstPart, _then_}
 use Rattle.lines.specs.Numbers.{number, largest, largestDraw, address}
-use Rattle.lines.specs.Forms.{callOf, callIn, time, freshWord, askWord, tickWord, packetWord, dropWord}
+use Rattle.lines.specs.Forms.{longestLine, callOf, callIn, time, freshWord, askWord, tickWord, packetWord, dropWord}
 use Rattle.lines.proofs.FieldLaws.{first-length, one-part, more-parts}
 use Rattle.lines.proofs.ReadingLaws.{then-none}
 use Rattle.numerals.specs.Parts.{addressOf}
@@ -170,14 +170,14 @@ no-line word rest head a b c d e a₁ a₂ b₁ b₂ c₁ c₂ d₁ d₂ e₁ e�
 
 -- A whole line.
 module _ (line head : List ℕ) where
-  pub too-long : 4_096 < length line → Makes Command.Malformed head (callOf line)
+  pub too-long : longestLine < length line → Makes Command.Malformed head (callOf line)
   unfolding callOf
-  too-long h = record { makes = rw (lt-leb (length line) 4_096 h) }
+  too-long h = record { makes = rw (lt-leb (length line) longestLine h) }
 
-  module _ (word : List ℕ) (short : length line ≤ 4_096) (cut : word ≡ firstPart tab line) where
+  module _ (word : List ℕ) (short : length line ≤ longestLine) (cut : word ≡ firstPart tab line) where
     short-line : callOf line ≡ callIn (parts tab line)
     unfolding callOf
-    short-line = ap (λ t. cond t (callIn (parts tab line)) none) (le-leb (length line) 4_096 short)
+    short-line = ap (λ t. cond t (callIn (parts tab line)) none) (le-leb (length line) longestLine short)
 
     pub word-split : (command : Command) (rest : List ℕ) → length word < length line → rest ≡ drop (suc (length word)) line
         → Makes command head (callIn (word ∷ parts tab rest)) → Makes command head (callOf line)
