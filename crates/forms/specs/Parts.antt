@@ -2,7 +2,7 @@
 use Prim.Native.Nat.{ℕ}
 use mathlib.Core.Path.{_≡_}
 use mathlib.Core.Bool.{cond}
-use mathlib.Core.List.{List, [], _∷_}
+use mathlib.Core.List.{List}
 use mathlib.Core.Option.{Option, none, some, Option·map}
 use lib.Dec.{eqb}
 use lib.ListN.{length, take}
@@ -10,7 +10,7 @@ use Rattle.machine.specs.Calls as Calls
 use Rattle.machine.specs.Calls.{Call}
 use Rattle.lines.specs.Fields.{_then_}
 use Rattle.lines.specs.Numbers.{number, largest, largestDraw, address, bytes, hardware}
-use Rattle.lines.specs.Forms.{field, time, lentBuffer, freshWord, askWord, tickWord, packetWord, dropWord}
+use Rattle.lines.specs.Forms.{field, time, lentBuffer}
 use Rattle.forms.specs.declared.Command.{Command}
 use Rattle.forms.specs.declared.Command.the-variants as Command
 

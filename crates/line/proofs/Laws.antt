@@ -1,8 +1,8 @@
 -- A call's answer as text: the frame that a kind hands out, and a packet's first 28 bytes.
 use Prim.Native.Nat.{ℕ, _≤_, _<_}
 use mathlib.Core.Path.{_≡_, refl, ap, sym, subst, _∙_}
-use mathlib.Core.Bool.{Bool, true, false, cond, true≢false}
-use mathlib.Core.List.{List, [], _∷_, _++_, append-nil}
+use mathlib.Core.Bool.{Bool, true, false, cond}
+use mathlib.Core.List.{List, [], _++_, append-nil}
 use mathlib.Core.Option.{Option, none, some, Option·map}
 use lib.Dec.{ltb}
 use native.Mathlib.Omega.{arith}
@@ -32,8 +32,8 @@ use Rattle.machine.specs.Slots.{recordAt, lowest}
 use Rattle.machine.specs.Deadlines.{dueSlot}
 use Rattle.machine.specs.Conflicts.{isConflict, response, responseKind, defence}
 use Rattle.machine.specs.Calls as Calls
-use Rattle.machine.specs.Calls.{Call, Outcome, Service, service, serviceAt, freshOutcome, askOutcome, tickOutcome, packetOutcome, dropOutcome, serve, meet}
-use Rattle.machine.specs.Machine.{Promised, outcomeOf, resultOf, refusalOf, lent, handedOut, acceptedAs}
+use Rattle.machine.specs.Calls.{Call, Service, service, serviceAt, freshOutcome, askOutcome, tickOutcome, packetOutcome, dropOutcome, serve, meet}
+use Rattle.machine.specs.Machine.{Promised, outcomeOf, resultOf, refusalOf, lent, handedOut}
 use Rattle.machine.proofs.PacketHead.{outcome-head, result-head}
 use Rattle.forms.specs.Parts.{headed, commandCall, Makes}
 use Rattle.forms.specs.declared.Command.{Command}
