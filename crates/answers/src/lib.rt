@@ -15,7 +15,7 @@ ghost use Rattle.digits.specs.Parts.{Put};
 ghost use Rattle.answers.specs.Parts.{shown, acceptedWith};
 ghost use Rattle.answers.specs.Parts.{sends as Parts·sends};
 
-// A tab and a number.
+// Puts a tab and a number at a place, and answers the place after it. So do the others named `put`.
 fn put_number(n: u64, out: &mut [u8], at: usize) -> usize
     requires { ⌜ at + 21 ≤ length (now out) ⌝ }
     ensures { λ r. ⌜ Put (tab ∷ decimal n) 21 at (now (out .entry)) (now (out .exit)) r ⌝ }
