@@ -7,14 +7,14 @@ use mathlib.Core.Option.{Option, none, some}
 use native.Mathlib.Omega.{arith}
 use lib.ListN.{length}
 use lib.Dec.{lit≤}
-use Rattle.rules.specs.Answers.{Accepted, kindWord}
-use Rattle.rules.specs.declared.Frame.{Frame}
+use Rattle.rules.specs.Answers.{kindWord}
 use Rattle.rules.specs.declared.Kind.{Kind}
 use Rattle.rules.specs.declared.Kind.the-variants.{Fresh, Taken, Nothing, Probe, Announce, Defend, Lost, Kept, Dropped}
 use Rattle.lines.specs.Fields.{tab, newline}
 use Rattle.lines.specs.Numbers.{decimal, hexText}
-use Rattle.lines.specs.Answers.{okWord, refusedWord, dash, numberText, frameText, refusedText, acceptedText}
-use Rattle.answers.specs.Parts.{Put, sends, shown, acceptedWith}
+use Rattle.lines.specs.Answers.{okWord, refusedWord, dash, numberText, refusedText}
+use Rattle.digits.specs.Parts.{Put}
+use Rattle.answers.specs.Parts.{sends, shown}
 use Rattle.lines.proofs.HexLaws.{hex-length}
 use Rattle.answers.proofs.Puts.{put-as, put-append}
 
@@ -53,8 +53,3 @@ pub refused-put : {n k p q next : ℕ} {old begun numbered new : List ℕ} → n
     Put (tab ∷ decimal n) 21 p begun numbered q → Put (newline ∷ []) 1 q numbered new next → Put (refusedText k) 29 0 old new next
 unfolding refusedText
 refused-put e f g h = rw (← e) (put-append (put-append f g) h)
-
--- The crate lines' text of an answer and its frame.
-pub accepted-text : (answer : Accepted) (frame : Option Frame) → acceptedText answer frame ≡ acceptedWith answer (frameText frame)
-unfolding acceptedText acceptedWith
-accepted-text answer frame = refl

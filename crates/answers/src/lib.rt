@@ -3,103 +3,25 @@ use rules::Kind;
 use rules::Moment;
 use rules::Refusal;
 use rules::SlotNumber;
-ghost use Prim.Native.Nat.{_+_, _*_, _%_, _≤_, _<_};
+ghost use Prim.Native.Nat.{_+_, _≤_};
 ghost use mathlib.Core.Path.{_≡_};
 ghost use mathlib.Core.List.{[], _∷_, _++_};
 ghost use lib.ListN.{length, take};
 ghost use Rattle.rules.specs.Answers.{kindWord, slotOf, timeOf, refusalNumber};
 ghost use Rattle.lines.specs.Fields.{tab, newline};
-ghost use Rattle.lines.specs.Numbers.{decimal, hexGlyph, hexText};
+ghost use Rattle.lines.specs.Numbers.{decimal};
 ghost use Rattle.lines.specs.Answers.{okWord, dash, numberText, refusedText, longestAnswer, written};
-ghost use Rattle.answers.specs.Parts.{Put, shown, acceptedWith};
+ghost use Rattle.digits.specs.Parts.{Put};
+ghost use Rattle.answers.specs.Parts.{shown, acceptedWith};
 ghost use Rattle.answers.specs.Parts.{sends as Parts·sends};
 
-// Puts a text at a place, and answers the place after it. So do the others named `put`.
-fn put(text: &[u8], out: &mut [u8], at: usize) -> usize
-    requires { ⌜ at + length (now text) ≤ length (now out) ⌝ }
-    ensures { λ r. ⌜ Put (now (text .entry)) (length (now (text .entry))) at (now (out .entry)) (now (out .exit)) r ⌝ }
-{
-    let mut i = 0;
-    while i < text.len() {
-        out[at + i] = text[i];
-        i += 1;
-    }
-    at + i
-}
-
-// How many digits a number has, counted two at a time.
-fn digit_count(n: u64) -> usize
-    ensures { λ r. ⌜ r ≡ length (decimal n) ⌝ }
-{
-    let mut count: usize = 0;
-    let mut rest = n;
-    while 100 <= rest {
-        rest = rest / 100;
-        count += 2;
-    }
-    if 10 <= rest { count + 2 } else { count + 1 }
-}
-
-// The last digit of a number.
-fn digit(n: u64) -> u8
-    ensures { λ r. ⌜ r ≡ 48 + n % 10 ⌝ }
-{
-    48 + (n % 10) as u8
-}
-
-// The digits of a number, the last two first.
-fn put_decimal(n: u64, out: &mut [u8], at: usize) -> usize
-    requires { ⌜ at + 20 ≤ length (now out) ⌝ }
-    ensures { λ r. ⌜ Put (decimal n) 20 at (now (out .entry)) (now (out .exit)) r ⌝ }
-{
-    let end = at + digit_count(n);
-    let mut i = end;
-    let mut rest = n;
-    while 100 <= rest {
-        out[i - 1] = digit(rest);
-        out[i - 2] = digit(rest / 10);
-        rest = rest / 100;
-        i -= 2;
-    }
-    if 10 <= rest {
-        out[at + 1] = digit(rest);
-        out[at] = digit(rest / 10);
-    } else {
-        out[at] = digit(rest);
-    }
-    end
-}
-
-fn hex_glyph(digit: u8) -> u8
-    requires { ⌜ digit < 16 ⌝ }
-    ensures { λ r. ⌜ r ≡ hexGlyph digit ⌝ }
-{
-    if digit < 10 { 48 + digit } else { 87 + digit }
-}
-
-// Bytes, two digits each.
-fn put_hex(bytes: &[u8], out: &mut [u8], at: usize) -> usize
-    requires { ⌜ at + 2 * length (now bytes) ≤ length (now out) ⌝ }
-    ensures { λ r. ⌜ Put (hexText (now (bytes .entry))) (2 * length (now (bytes .entry))) at (now (out .entry)) (now (out .exit)) r ⌝ }
-{
-    let mut i = 0;
-    while i < bytes.len() {
-        let byte = bytes[i];
-        let place = at + 2 * i;
-        out[place] = hex_glyph(byte / 16);
-        out[place + 1] = hex_glyph(byte % 16);
-        i += 1;
-    }
-    at + 2 * i
-}
-
-// A tab and a number.
+// Puts a tab and a number at a place, and answers the place after it. So do the others named `put`.
 fn put_number(n: u64, out: &mut [u8], at: usize) -> usize
     requires { ⌜ at + 21 ≤ length (now out) ⌝ }
     ensures { λ r. ⌜ Put (tab ∷ decimal n) 21 at (now (out .entry)) (now (out .exit)) r ⌝ }
 {
     out[at] = b'\t';
-    put_decimal(n, out, at + 1)
+    digits::put_decimal(n, out, at + 1)
 }
 
 // A tab and `-`.
@@ -155,7 +77,7 @@ fn put_frame(kind: Kind, frame: &[u8; 28], out: &mut [u8], at: usize) -> usize
 {
     if sends(kind) {
         out[at] = b'\t';
-        put_hex(frame, out, at + 1)
+        digits::put_hex(frame, out, at + 1)
     } else {
         put_none(out, at)
     }
@@ -237,7 +159,7 @@ fn put_kind(kind: Kind, out: &mut [u8]) -> usize
     let begun = beginning(kind);
     let text = begun.text;
     let length = begun.length;
-    put(&text[..length], out, 0)
+    digits::put(&text[..length], out, 0)
 }
 
 // The byte 10 that ends every answer.
@@ -296,7 +218,7 @@ pub fn refused(refusal: Refusal, out: &mut [u8]) -> usize
     ensures { λ r. ⌜ r ≡ length (refusedText (refusalNumber refusal)) ⌝ }
     ensures { λ r. ⌜ now (out .exit) ≡ written (refusedText (refusalNumber refusal)) (now (out .entry)) ⌝ }
 {
-    let number_at = put(b"refused", out, 0);
+    let number_at = digits::put(b"refused", out, 0);
     let end = put_number(number(refusal), out, number_at);
     put_newline(out, end)
 }

@@ -36,9 +36,9 @@ use Rattle.machine.specs.Calls as Calls
 use Rattle.machine.specs.Calls.{Call, Service, service, serviceAt, freshOutcome, askOutcome, tickOutcome, packetOutcome, dropOutcome, serve, meet}
 use Rattle.machine.specs.Machine.{Promised, outcomeOf, resultOf, refusalOf, handedOut}
 use Rattle.machine.proofs.PacketHead.{outcome-head, result-head}
-use Rattle.commands.specs.Parts.{headed, commandCall, Makes}
-use Rattle.commands.specs.declared.Command.{Command}
-use Rattle.commands.specs.declared.Command.the-variants as Command
+use Rattle.forms.specs.Parts.{headed, commandCall, Makes}
+use Rattle.forms.specs.declared.Command.{Command}
+use Rattle.forms.specs.declared.Command.the-variants as Command
 use Rattle.lines.specs.Forms.{lentBuffer, callOf}
 use Rattle.lines.specs.Numbers.{hexText}
 use Rattle.lines.specs.Answers.{dash, written, frameText, refusedText, acceptedText, reportText, answerTo, lineAnswer, longestAnswer, hasRoom}

@@ -10,8 +10,8 @@ use Rattle.rules.specs.declared.Answer.{Answer}
 use Rattle.rules.specs.declared.Answer.the-variants as Answer
 use Rattle.machine.specs.Calls as Calls
 use Rattle.engine.specs.Parts.{callWith}
-use Rattle.commands.specs.Parts.{commandCall}
-use Rattle.commands.specs.declared.Command.{Command}
+use Rattle.forms.specs.Parts.{commandCall}
+use Rattle.forms.specs.declared.Command.{Command}
 use Rattle.lines.specs.Forms.{lentBuffer}
 use Rattle.lines.specs.Answers as Answers
 use Rattle.lines.specs.Answers.{refusedText, written}

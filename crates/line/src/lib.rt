@@ -1,6 +1,6 @@
 // A line answered: the call that it makes, and the answer's text.
-use commands::Command;
 use engine::Call;
+use forms::Command;
 use lines::LONGEST_ANSWER;
 use rules::Answer;
 use rules::HardwareAddress;
@@ -17,7 +17,7 @@ ghost use Rattle.machine.specs.Calls as Calls;
 ghost use Rattle.engine.specs.Parts.{callWith};
 ghost use Rattle.lines.specs.Forms.{lentBuffer};
 ghost use Rattle.lines.specs.Answers.{longestAnswer, hasRoom, written, refusedText, answerTo, lineAnswer};
-ghost use Rattle.commands.specs.Parts.{commandCall};
+ghost use Rattle.forms.specs.Parts.{commandCall};
 ghost use Rattle.line.specs.Parts.{answerText, Gives, Plans};
 
 // What a line comes to: the state afterwards, and how many bytes of the answer were written.

@@ -1,11 +1,11 @@
 -- Addresses as text.
-use Prim.Native.Nat.{ℕ, _<_, _^_}
+use Prim.Native.Nat.{ℕ, _<_, _≤_, _^_}
 use mathlib.Core.Path.{_≡_, refl, sym, ap, ap₂, subst, _∙_}
 use mathlib.Core.Bool.{true, false, true≢false}
 use mathlib.Core.List.{List, [], _∷_, _++_, map}
 use mathlib.Core.Option.{none, some}
 use native.Mathlib.Omega.{arith}
-use lib.Dec.{eqb, ltb}
+use lib.Dec.{eqb, ltb, lit<, lit≤}
 use lib.ListN.{length}
 use lib.Pow.{areBytes}
 use borrow.Author.Tests.{lt-ltb, ltb-true, ne-eqb, eq-eqb, eqb-true}
@@ -51,27 +51,28 @@ pub all-lack : (bs : List ℕ) → allLack dot (map decimal bs) ≡ true
 all-lack [] = refl
 all-lack (b ∷ bs) = rw (digits-lack dot refl (decimal b) (decimal-digits b), all-lack bs)
 
-each-printed : (bs : List ℕ) → areBytes bs ≡ true → each (number 255) (map decimal bs) ≡ some bs
+each-printed : (most : ℕ) → 255 ≤ most → most < 2 ^ 64 → (bs : List ℕ) → areBytes bs ≡ true →
+    each (number most) (map decimal bs) ≡ some bs
 unfolding each
-each-printed [] small = refl
-each-printed (b ∷ bs) small =
+each-printed most all fit [] small = refl
+each-printed most all fit (b ∷ bs) small =
     let (fits, rest) = and-both (ltb b 256) (areBytes bs) small in
-    rw (number-printed 255 b (omega (arith, ltb-true b 256 fits)) (omega arith), each-printed bs rest)
+    rw (number-printed most b (omega (arith, ltb-true b 256 fits)) (omega arith), each-printed most all fit bs rest)
 
 abbrev ArePrinted : List (List ℕ) → List ℕ → Type 0
 ArePrinted ps bs = (ps ≡ map decimal bs) × (areBytes bs ≡ true)
 
-each-exact : (ps : List (List ℕ)) (bs : List ℕ) → each (number 255) ps ≡ some bs → ArePrinted ps bs
+each-exact : (most : ℕ) → most < 256 → (ps : List (List ℕ)) (bs : List ℕ) → each (number most) ps ≡ some bs → ArePrinted ps bs
 unfolding each
-each-exact [] bs e = let is : [] ≡ bs = cc in subst (ArePrinted []) is (refl, refl)
-each-exact (p ∷ ps) bs e =
-    let (b, read, e′) = then-some (number 255 p) _ bs e in
-    let (rest, read-rest, made) = then-some (each (number 255) ps) _ bs e′ in
+each-exact most byte [] bs e = let is : [] ≡ bs = cc in subst (ArePrinted []) is (refl, refl)
+each-exact most byte (p ∷ ps) bs e =
+    let (b, read, e′) = then-some (number most p) _ bs e in
+    let (rest, read-rest, made) = then-some (each (number most) ps) _ bs e′ in
     let is : b ∷ rest ≡ bs = cc in
-    let (printed, small) = each-exact ps rest read-rest in
-    let fits = number-at-most 255 p b read in
+    let (printed, small) = each-exact most byte ps rest read-rest in
+    let fits = number-at-most most p b read in
     subst (ArePrinted (p ∷ ps)) is
-    (ap₂ _∷_ (number-exact 255 p b (omega arith) read) printed, rw (lt-ltb b 256 (omega arith)) small)
+    (ap₂ _∷_ (number-exact most p b (omega arith) read) printed, rw (lt-ltb b 256 (omega arith)) small)
 
 -- "Four such numbers up to 255, parted by dots."
 pub address-of-four : (four : List ℕ) → areBytes four ≡ true → length four ≡ 4 →
@@ -81,7 +82,7 @@ address-of-four [] small count = absurd (omega arith)
 address-of-four (b ∷ bs) small count =
     rw (
       parts-joined dot (decimal b) (map decimal bs) (all-lack (b ∷ bs)),
-      each-printed (b ∷ bs) small,
+      each-printed _ (lit≤ tt) (lit< tt) (b ∷ bs) small,
       eq-eqb (length (b ∷ bs)) 4 count,
     )
 
@@ -95,10 +96,10 @@ pub address-exact : (text : List ℕ) (ip : Ipv4Address) → address text ≡ so
     (text ≡ dotted (bytesOf 4 (ip .0))) × (ip .0 < 2 ^ 32)
 unfolding address
 address-exact text ip e =
-    let (four, read, made) = then-some (each (number 255) (parts dot text)) _ ip e in
+    let (four, read, made) = then-some (each (number _) (parts dot text)) _ ip e in
     let (count, is) = only-some (eqb (length four) 4) (record { 0 = numberOf four }) ip made in
     let same = ap (λ (address : Ipv4Address). address .0) is in
-    let (printed, small) = each-exact (parts dot text) four read in
+    let (printed, small) = each-exact _ (lit< tt) (parts dot text) four read in
     let (again, fits) = number-as-bytes 4 four small (eqb-true (length four) 4 count) in (
       sym (joined-parts dot text) ∙ ap (joined dot) printed ∙ ap dotted (sym again) ∙ ap (λ (n : ℕ). dotted (bytesOf 4 n)) same,
       omega arith,

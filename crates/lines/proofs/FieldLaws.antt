@@ -11,22 +11,30 @@ use lib.ListN.{length, getD, take, drop}
 use Rattle.lines.specs.Fields.{before, parts, firstPart}
 
 -- There is always a first part.
-pub first-of-parts : (s : ℕ) (text : List ℕ) → parts s text ≡ firstPart s text ∷ drop 1 (parts s text)
+some-part : (s : ℕ) (text : List ℕ) → 1 ≤ length (parts s text)
 unfolding parts
-first-of-parts s [] = refl
-first-of-parts s (b ∷ text) = cases (eqb b s) (parts s text) (first-of-parts s text)
+some-part s [] = omega arith
+some-part s (b ∷ text) = cases (eqb b s) refl (some-part s text)
   where
-    cases : (t : Bool) (ps : List (List ℕ))
-        → ps ≡ getD ps 0 [] ∷ drop 1 ps
-        → cond t ([] ∷ ps) (before b ps) ≡ getD (cond t ([] ∷ ps) (before b ps)) 0 [] ∷ drop 1 (cond t ([] ∷ ps) (before b ps))
-    cases true ps e = refl
-    cases false [] e = refl
-    cases false (p ∷ ps) e = refl
+    some-before : (ps : List (List ℕ)) → 1 ≤ length (before b ps)
+    some-before [] = omega arith
+    some-before (p ∷ ps) = omega arith
+
+    cases : (t : Bool) → eqb b s ≡ t → 1 ≤ length (parts s text) → 1 ≤ length (parts s (b ∷ text))
+    cases true e h = rw e (omega arith)
+    cases false e h = rw e (some-before (parts s text))
+
+first-and-others : (ps : List (List ℕ)) → 1 ≤ length ps → ps ≡ getD ps 0 [] ∷ drop 1 ps
+first-and-others [] h = absurd (omega arith)
+first-and-others (p ∷ ps) h = refl
+
+pub first-of-parts : (s : ℕ) (text : List ℕ) → parts s text ≡ firstPart s text ∷ drop 1 (parts s text)
+first-of-parts s text = first-and-others (parts s text) (some-part s text)
 
 -- A byte more in front: the separator itself, or a byte of the first part.
 pub first-separator : (s b : ℕ) (text : List ℕ) → eqb b s ≡ true → firstPart s (b ∷ text) ≡ []
 unfolding parts
-first-separator s b text e = ap (λ t. getD (cond t ([] ∷ parts s text) (before b (parts s text))) 0 []) e
+first-separator s b text e = rw e
 
 pub first-other : (s b : ℕ) (text : List ℕ) → eqb b s ≡ false → firstPart s (b ∷ text) ≡ b ∷ firstPart s text
 unfolding parts

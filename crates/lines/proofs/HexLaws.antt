@@ -7,7 +7,7 @@ use mathlib.Core.Option.{Option, none, some, Option·some-injective}
 use native.Mathlib.Nat.{div-add-mod', div-lt-iff-lt-mul, mod-lt}
 use native.Mathlib.Omega.{arith}
 use lib.Arith.{digits-div, digits-mod}
-use lib.Dec.{leb, eqb, ltb}
+use lib.Dec.{leb, eqb, ltb, lit≤}
 use lib.ListN.{length}
 use lib.Pow.{areBytes}
 use lib.Seq.{take-all}
@@ -128,16 +128,19 @@ odd-count text half odd = go (hexBytes text) refl
     go (some bs) e = absurd (omega (arith, read-length text bs e))
 
 -- "From 0 to 3,000" digits.
+up-to : (most : ℕ) → 3_000 ≤ most → (text : List ℕ) → length text ≤ 3_000 →
+    cond (leb (length text) most) (hexBytes text) none ≡ hexBytes text
+up-to most all text few = rw (le-leb (length text) most (omega arith))
+
 pub bytes-printed : (bs : List ℕ) → areBytes bs ≡ true → length bs ≤ 1_500 → bytes (hexText bs) ≡ some bs
 unfolding bytes
-bytes-printed bs small few =
-    rw (hex-length bs, le-leb (2 * length bs) 3_000 (omega arith), hex-printed bs small)
+bytes-printed bs small few = up-to _ (lit≤ tt) (hexText bs) (omega (arith, hex-length bs)) ∙ hex-printed bs small
 
 pub bytes-exact : (text bs : List ℕ) → bytes text ≡ some bs → IsTextOf bs text × (length bs ≤ 1_500)
 unfolding bytes
 bytes-exact text bs e =
-    let (few, read) = cond-some (leb (length text) 3_000) (hexBytes text) bs e in
-    (hex-exact text bs read, omega (arith, leb-true (length text) 3_000 few, read-length text bs read))
+    let (few, read) = cond-some (leb (length text) _) (hexBytes text) bs e in
+    (hex-exact text bs read, omega (arith, leb-true (length text) _ few, read-length text bs read))
 
 pub remainder-small : (n : ℕ) → ltb (n % 256) 256 ≡ true
 remainder-small n = lt-ltb (n % 256) 256 (mod-lt n (omega arith))

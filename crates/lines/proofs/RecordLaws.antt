@@ -10,7 +10,7 @@ use lib.ListN.{length, drop}
 use lib.Seq.{append-snoc}
 use Rattle.rules.specs.declared.Interface.{Interface}
 use Rattle.lines.specs.Fields.{newline, firstPart}
-use Rattle.lines.specs.Forms.{callOf}
+use Rattle.lines.specs.Forms.{longestLine, callOf}
 use Rattle.lines.specs.Answers.{malformed, lineAnswer}
 use Rattle.lines.specs.Records.{recordsAfter, records, answers}
 use Rattle.lines.proofs.FieldLaws.{first-separator, first-other}
@@ -91,4 +91,4 @@ answers-empty s = refl
 -- "A line that is too long" gives one refusal.
 pub too-long-refused : (s : Interface) (line : List ℕ) → 4_096 < length line → lineAnswer s line ≡ malformed s
 unfolding lineAnswer callOf
-too-long-refused s line h = rw (lt-leb (length line) 4_096 h)
+too-long-refused s line h = rw (lt-leb (length line) longestLine (omega arith))

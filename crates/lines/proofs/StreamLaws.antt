@@ -16,7 +16,8 @@ use Rattle.lines.specs.Fields.{newline, firstPart}
 use Rattle.lines.specs.Numbers.{lastDigits}
 use Rattle.lines.specs.Answers.{refusedText, Answered, malformed, lineAnswer, longestAnswer}
 use Rattle.lines.specs.Records.{recordsAfter, answers, replay}
-use Rattle.lines.specs.Stream.{longestLine, Work, endedAnswer, atLineStart, wait, stop, afterwards, workAfter, work, finish, Move, arrives, works, Going, after, arrived, moved, begin, isWaiting, outputAtEnd, kept, keptLength, Theorem}
+use Rattle.lines.specs.Forms.{longestLine}
+use Rattle.lines.specs.Stream.{Work, endedAnswer, atLineStart, afterLine, roomAfter, isFull, wait, stop, afterwards, workAfter, work, finish, Move, arrives, works, Going, after, arrived, moved, begin, isWaiting, outputAtEnd, kept, keptLength, Theorem}
 use Rattle.lines.proofs.RecordLaws.{by-line, by-end, too-long-refused}
 
 -- What comes before work in two steps comes before it in one.
@@ -37,9 +38,8 @@ stream s skipping = record { state = s; skipping = skipping }
 -- The work where a line has ended.
 abbrev pub lineDone : Stream → List ℕ → List ℕ → ℕ → Work
 lineDone st line rest room =
-    cond (ltb room longestAnswer) (stop st)
-    (afterwards (suc (length line)) (endedAnswer st line .text)
-    (work (atLineStart (endedAnswer st line .state)) rest (room - length (endedAnswer st line .text))))
+    cond (isFull room) (stop st)
+    (afterwards (suc (length line)) (endedAnswer st line .text) (work (afterLine st line) rest (roomAfter st line room)))
 
 module _ (st : Stream) (input : List ℕ) (room : ℕ) where
   work-on : (begun : List ℕ) (b : ℕ) (rest : List ℕ) → eqb b newline ≡ false →
@@ -62,13 +62,13 @@ module _ (st : Stream) (input : List ℕ) (room : ℕ) where
 pub work-keeps : (s : Interface) (input : List ℕ) (room : ℕ) → length (firstPart newline input) ≡ length input →
     length input ≤ 4_096 →
     work (atLineStart s) input room ≡ record { stream = atLineStart s; used = 0; text = []; waiting = true }
-work-keeps s input room h few = work-wait (atLineStart s) input room h ∙ rw (le-ltb longestLine (length input) (omega arith))
+work-keeps s input room h few = work-wait (atLineStart s) input room h ∙ search (le-ltb longestLine (length input) (omega arith))
 
 -- and with one byte more the line is too long already and is used up, without an answer yet.
 pub work-skips : (s : Interface) (input : List ℕ) (room : ℕ) → length (firstPart newline input) ≡ length input →
     4_096 < length input →
     work (atLineStart s) input room ≡ record { stream = stream s true; used = length input; text = []; waiting = true }
-work-skips s input room h many = work-wait (atLineStart s) input room h ∙ rw (lt-ltb longestLine (length input) (omega arith))
+work-skips s input room h many = work-wait (atLineStart s) input room h ∙ search (lt-ltb longestLine (length input) (omega arith))
 
 -- The output still to come, of a stream and the rest of its input after the bytes of a line begun.
 toCome : Stream → List ℕ → List ℕ → List ℕ
@@ -200,14 +200,14 @@ module _ (st : Stream) (begun : List ℕ) (room : ℕ) (told : Begun st begun) w
       })
 
 module _ (st : Stream) (begun : List ℕ) (b : ℕ) (input : List ℕ) (room : ℕ) where
-  fair-stop : ltb room longestAnswer ≡ true → Begun st begun → FairWork st begun (b ∷ input) room (stop st)
+  fair-stop : isFull room ≡ true → Begun st begun → FairWork st begun (b ∷ input) room (stop st)
   unfolding Begun
   fair-stop full told =
       record {
         goes = λ more. sym (told (b ∷ input ++ more)) ∙ ap (toCome st []) (sym (append-assoc begun (b ∷ input) more));
         ends = λ h. absurd (false≢true h);
         small = λ h. absurd (false≢true h);
-        moves = λ h k. absurd (omega (arith, ltb-true room longestAnswer full));
+        moves = λ h k. absurd (omega (arith, ltb-true room _ full));
         within = omega arith;
         fits = λ longest. omega arith;
       }
@@ -225,8 +225,8 @@ module _ (st : Stream) (begun : List ℕ) (b : ℕ) (input : List ℕ) (room : �
         fits = later .fits;
       })
 
-  fair-line : eqb b newline ≡ true → ltb room longestAnswer ≡ false → (w : Work) →
-      FairWork (atLineStart (endedAnswer st begun .state)) [] input (room - length (endedAnswer st begun .text)) w →
+  fair-line : eqb b newline ≡ true → isFull room ≡ false → (w : Work) →
+      FairWork (afterLine st begun) [] input (roomAfter st begun room) w →
       FairWork st begun (b ∷ input) room (afterwards (suc (length begun)) (endedAnswer st begun .text) w)
   fair-line e some w next =
       rw left
@@ -246,7 +246,7 @@ module _ (st : Stream) (begun : List ℕ) (b : ℕ) (input : List ℕ) (room : �
             (omega (
               arith,
               next .fits longest,
-              ltb-false room longestAnswer some,
+              ltb-false room _ some,
               ended-at-most longest (st .state) (st .skipping) begun,
             ));
       })
@@ -263,19 +263,19 @@ fair : (st : Stream) (begun input : List ℕ) (room : ℕ) → FairAfter st begu
 unfolding FairAfter workAfter Begun
 fair st begun [] room told = fair-wait st begun room told (isTooLong (st .skipping) begun) refl
 fair st begun (b ∷ input) room told =
-    cases (eqb b newline) refl (ltb room longestAnswer) refl
-    (fair (atLineStart (endedAnswer st begun .state)) [] input (room - length (endedAnswer st begun .text)))
+    cases (eqb b newline) refl (isFull room) refl
+    (fair (afterLine st begun) [] input (roomAfter st begun room))
     (fair st (begun ++ (b ∷ [])) input room)
   where
-    cases : (ended : Bool) → eqb b newline ≡ ended → (full : Bool) → ltb room longestAnswer ≡ full →
-        FairAfter (atLineStart (endedAnswer st begun .state)) [] input (room - length (endedAnswer st begun .text)) →
+    cases : (ended : Bool) → eqb b newline ≡ ended → (full : Bool) → isFull room ≡ full →
+        FairAfter (afterLine st begun) [] input (roomAfter st begun room) →
         FairAfter st (begun ++ (b ∷ [])) input room →
         FairWork st begun (b ∷ input) room (workAfter st begun (b ∷ input) room)
     cases true e true full next later = rw (e, full) (fair-stop st begun b input room full told)
     cases true e false full next later =
         rw (e, full)
         (fair-line st begun b input room e full
-        (work (atLineStart (endedAnswer st begun .state)) input (room - length (endedAnswer st begun .text)))
+        (work (afterLine st begun) input (roomAfter st begun room))
         (next (λ more. refl)))
     cases false e full f next later =
         rw e

@@ -59,6 +59,10 @@ callIn fields =
     (time (field 1 fields) then λ t. number largest (field 2 fields) then λ slot. some (drop t slot))
     none))))
 
--- The call that a line makes, or none: "at most 4,096 bytes", "fields parted by one tab".
+-- "One record a line, ended by byte 10, at most 4,096 bytes before it."
+abbrev pub longestLine : ℕ
+longestLine = 4_096
+
+-- The call that a line makes, or none: "fields parted by one tab".
 unfoldable pub callOf : List ℕ → Option Call
-callOf line = cond (leb (length line) 4_096) (callIn (parts tab line)) none
+callOf line = cond (leb (length line) longestLine) (callIn (parts tab line)) none

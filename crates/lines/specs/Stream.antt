@@ -12,11 +12,9 @@ use Rattle.machine.specs.Bench.{zeros}
 use Rattle.lines.specs.declared.Stream.{Stream}
 use Rattle.lines.specs.Fields.{newline}
 use Rattle.lines.specs.Numbers.{isEmpty}
+use Rattle.lines.specs.Forms.{longestLine}
 use Rattle.lines.specs.Answers.{Answered, malformed, lineAnswer, longestAnswer, written}
 use Rattle.lines.specs.Records.{replay}
-
-abbrev pub longestLine : ℕ
-longestLine = 4_096
 
 -- What a call on the input at hand comes to: the stream afterwards, how many bytes of the input are used up, the text written,
 -- and whether it waits for more input (else the out buffer was too short to go on).
@@ -32,6 +30,17 @@ endedAnswer st line = cond (st .skipping) (malformed (st .state)) (lineAnswer (s
 
 abbrev pub atLineStart : Interface → Stream
 atLineStart s = record { state = s; skipping = false }
+
+-- Behind a line's byte 10: the stream, and the room that the answer leaves.
+abbrev pub afterLine : Stream → List ℕ → Stream
+afterLine st line = atLineStart (endedAnswer st line .state)
+
+abbrev pub roomAfter : Stream → List ℕ → ℕ → ℕ
+roomAfter st line room = room - length (endedAnswer st line .text)
+
+-- Whether so much room may be too short for an answer.
+abbrev pub isFull : ℕ → Bool
+isFull room = ltb room longestAnswer
 
 -- No byte 10 is left. A line that is too long already is used up, so that no more than 4,096 bytes are ever kept; any other is
 -- left for the next call.
@@ -60,9 +69,9 @@ unfoldable pub workAfter : Stream → List ℕ → List ℕ → ℕ → Work
 workAfter st begun [] room = wait st begun
 workAfter st begun (b ∷ input) room =
     cond (eqb b newline)
-    (cond (ltb room longestAnswer) (stop st)
+    (cond (isFull room) (stop st)
     (afterwards (suc (length begun)) (endedAnswer st begun .text)
-    (workAfter (atLineStart (endedAnswer st begun .state)) [] input (room - length (endedAnswer st begun .text)))))
+    (workAfter (afterLine st begun) [] input (roomAfter st begun room))))
     (workAfter st (begun ++ (b ∷ [])) input room)
 
 abbrev pub work : Stream → List ℕ → ℕ → Work

@@ -14,7 +14,8 @@ use Rattle.machine.specs.Interface.{isSound}
 use Rattle.lines.specs.declared.Stream.{Stream}
 use Rattle.lines.specs.Fields.{newline, firstPart}
 use Rattle.lines.specs.Answers.{longestAnswer, written}
-use Rattle.lines.specs.Stream.{longestLine, Work, endedAnswer, atLineStart, wait, afterwards, work}
+use Rattle.lines.specs.Forms.{longestLine}
+use Rattle.lines.specs.Stream.{Work, endedAnswer, atLineStart, wait, afterwards, work}
 use Rattle.lines.proofs.AnswerLaws.{line-stays-sound}
 use Rattle.lines.proofs.FieldLaws.{first-length}
 use Rattle.lines.proofs.StreamLaws.{afterwards-nothing, afterwards-twice, lineDone, work-line, work-wait}

@@ -1,6 +1,7 @@
 -- `commands::ask_fields`.
 use borrow.Author.Needs.{needs}
-use Rattle.commands.proofs.Laws.{address-none, address-some, ask-made, ask-no-address, ask-no-draw, ask-no-policy, ask-no-time, draw-fits, read-none, read-some}
+use Rattle.forms.proofs.Laws.{draw-fits, read-none, read-some}
+use Rattle.commands.proofs.Laws.{address-none, address-some, ask-made, ask-no-address, ask-no-draw, ask-no-policy, ask-no-time}
 use Rattle.commands.proofs.ask_fields.Statement.{statement}
 use Rattle.commands.proofs.ask_fields.Tie as tie
 
