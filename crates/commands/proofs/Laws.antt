@@ -11,7 +11,7 @@ use Rattle.rules.specs.Bytes.{sameBytes}
 use Rattle.rules.proofs.BytesLaws.{same-equal}
 use Rattle.rules.specs.declared.Ipv4Address.{Ipv4Address}
 use Rattle.machine.specs.Calls.{Call}
-use Rattle.lines.specs.Fields.{tab, parts, firstPart, _then_}
+use Rattle.lines.specs.Fields.{tab, parts, firstPart}
 use Rattle.lines.specs.Numbers.{number, largest, largestDraw, address}
 use Rattle.lines.specs.Forms.{longestLine, callOf, callIn, time, freshWord, askWord, tickWord, packetWord, dropWord}
 use Rattle.lines.proofs.FieldLaws.{first-length, one-part, more-parts}

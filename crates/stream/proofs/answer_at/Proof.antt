@@ -1,9 +1,8 @@
 -- `stream::answer_at`: the end of a line that is too long, or a line.
 use mathlib.Core.Path.{refl}
 use borrow.Author.Needs.{needs}
-use native.Mathlib.Omega.{arith}
 use Rattle.lines.specs.Answers.{refusedText, lineAnswer}
-use Rattle.stream.proofs.Places.{length-rest, put-back}
+use Rattle.stream.proofs.Places.{put-back}
 use Rattle.stream.proofs.answer_at.Statement.{statement}
 use Rattle.stream.proofs.answer_at.Tie as tie
 
