@@ -9,6 +9,12 @@
 use libc::STDIN_FILENO;
 use libc::STDOUT_FILENO;
 use lines::Stream;
+ghost use Prim.Native.Nat.{_≤_};
+ghost use mathlib.Core.Path.{_≡_};
+ghost use mathlib.Core.Bool.{false};
+ghost use lib.ListN.{length, take};
+ghost use Rattle.machine.specs.Bench.{zeros};
+ghost use Rattle.lines.specs.Stream.{atLineStart, work, kept, keptLength};
 
 // Where the replay stands: `held` bytes at the start of the input buffer are not used up, and are to be worked on again unless it
 // is waiting for more. `going` is false once it is over.
@@ -19,7 +25,9 @@ struct Turn {
     going: bool,
 }
 
-fn over(stream: Stream) -> Turn {
+fn over(stream: Stream) -> Turn
+    ensures { λ r. ⌜ (r .stream ≡ stream) × (r .going ≡ false) ⌝ }
+{
     Turn {
         stream,
         held: 0,
@@ -38,7 +46,12 @@ fn write(out: &[u8], count: usize) -> bool {
 }
 
 // Answers the lines at hand. What is not used up moves to the start of the buffer.
-fn answer(stream: Stream, input: &mut [u8], held: usize, out: &mut [u8]) -> Turn {
+fn answer(stream: Stream, input: &mut [u8], held: usize, out: &mut [u8]) -> Turn
+    ensures { λ r. ⌜ r .stream ≡ work stream (take held (now (input .entry))) (length (now (out .entry))) .stream ⌝ }
+    ensures { λ r. ⌜ r .waiting ≡ work stream (take held (now (input .entry))) (length (now (out .entry))) .waiting ⌝ }
+    ensures { λ r. ⌜ r .held ≡ keptLength (work stream (take held (now (input .entry))) (length (now (out .entry))) .used) held (now (input .entry)) ⌝ }
+    ensures { λ r. ⌜ now (input .exit) ≡ kept (work stream (take held (now (input .entry))) (length (now (out .entry))) .used) held (now (input .entry)) ⌝ }
+{
     let worked = stream::work(stream, fields::start(input, held), out);
     let next = worked.stream;
     let going = write(out, worked.written);
@@ -51,7 +64,9 @@ fn answer(stream: Stream, input: &mut [u8], held: usize, out: &mut [u8]) -> Turn
 }
 
 // The input ended.
-fn end(stream: Stream, input: &[u8], held: usize, out: &mut [u8]) -> Turn {
+fn end(stream: Stream, input: &[u8], held: usize, out: &mut [u8]) -> Turn
+    ensures { λ r. ⌜ (r .stream ≡ stream) × (r .going ≡ false) ⌝ }
+{
     let finished = stream::finish(stream, fields::start(input, held), out);
     write(out, finished.written);
     over(stream)
@@ -65,7 +80,10 @@ struct Got {
 }
 
 // Reads behind what is held. There is always room, since no more than 4,096 bytes are held; the test only makes the part safe.
-fn read(input: &mut [u8], held: usize) -> Got {
+fn read(input: &mut [u8], held: usize) -> Got
+    ensures { λ r. ⌜ held ≤ r .held ⌝ }
+    ensures { λ r. ⌜ take held (now (input .exit)) ≡ take held (now (input .entry)) ⌝ }
+{
     if input.len() <= held {
         return Got {
             held,
@@ -83,7 +101,10 @@ fn read(input: &mut [u8], held: usize) -> Got {
 }
 
 // Reads more, or comes to the end.
-fn read_more(stream: Stream, input: &mut [u8], held: usize, out: &mut [u8]) -> Turn {
+fn read_more(stream: Stream, input: &mut [u8], held: usize, out: &mut [u8]) -> Turn
+    ensures { λ r. ⌜ r .stream ≡ stream ⌝ }
+    ensures { λ r. ⌜ take held (now (input .exit)) ≡ take held (now (input .entry)) ⌝ }
+{
     let got = read(input, held);
     if got.failed {
         os::fail(b"replay: standard input was not read");
@@ -110,7 +131,9 @@ fn take_turn(from: Turn, input: &mut [u8; 69_632], out: &mut [u8; 262_144]) -> T
     }
 }
 
-fn begin() -> Turn {
+fn begin() -> Turn
+    ensures { λ r. ⌜ (r .stream ≡ atLineStart zeros) × (r .held ≡ 0) ⌝ }
+{
     Turn {
         stream: stream::begin(),
         held: 0,
