@@ -13,7 +13,7 @@ ghost use Prim.Native.Nat.{_≤_};
 ghost use mathlib.Core.Path.{_≡_};
 ghost use mathlib.Core.Bool.{false};
 ghost use lib.ListN.{length, take};
-ghost use Rattle.machine.specs.Bench.{zeros};
+ghost use Rattle.machine.specs.Interface.{zeros};
 ghost use Rattle.lines.specs.Stream.{atLineStart, work, kept, keptLength};
 
 // Where the replay stands: `held` bytes at the start of the input buffer are not used up, and are to be worked on again unless it

@@ -10,7 +10,7 @@ use borrow.Author.Tests.{ltb-true, ltb-false, lt-ltb, le-ltb, le-leb}
 use lib.ListN.{length, take, drop, replicate, length-append, length-drop}
 use lib.Seq.{append-snoc, length-take-le, take-at, drop-at, take-add, drop-append-seam, drop-append-add}
 use Rattle.rules.specs.declared.Interface.{Interface}
-use Rattle.machine.specs.Bench.{zeros}
+use Rattle.machine.specs.Interface.{zeros}
 use Rattle.lines.specs.declared.Stream.{Stream}
 use Rattle.lines.specs.Fields.{newline, firstPart}
 use Rattle.lines.specs.Numbers.{lastDigits}

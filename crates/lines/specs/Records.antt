@@ -6,7 +6,7 @@ use mathlib.Core.Bool.{cond}
 use mathlib.Core.List.{List, [], _∷_, _++_}
 use lib.Dec.{eqb}
 use Rattle.rules.specs.declared.Interface.{Interface}
-use Rattle.machine.specs.Bench.{zeros}
+use Rattle.machine.specs.Interface.{zeros}
 use Rattle.lines.specs.Fields.{newline}
 use Rattle.lines.specs.Numbers.{isEmpty}
 use Rattle.lines.specs.Answers.{Answered, malformed, lineAnswer}

@@ -8,7 +8,7 @@ use mathlib.Core.List.{List, [], _∷_, _++_}
 use lib.Dec.{eqb, leb, ltb}
 use lib.ListN.{length, take, drop}
 use Rattle.rules.specs.declared.Interface.{Interface}
-use Rattle.machine.specs.Bench.{zeros}
+use Rattle.machine.specs.Interface.{zeros}
 use Rattle.lines.specs.declared.Stream.{Stream}
 use Rattle.lines.specs.Fields.{newline}
 use Rattle.lines.specs.Numbers.{isEmpty}

@@ -20,6 +20,7 @@ use Rattle.rules.specs.declared.Kind.{Kind}
 use Rattle.rules.specs.declared.Kind.the-variants.{Fresh, Taken, Nothing, Probe, Announce, Defend, Lost, Kept}
 use Rattle.machine.specs.Timing.{rfc5227, wait}
 use Rattle.machine.specs.Slots.{freeRecord}
+use Rattle.machine.specs.Interface.{zeros}
 use Rattle.machine.specs.Calls.{Call, fresh, ask, tick, packet}
 use Rattle.machine.specs.Machine.{resultOf}
 use Rattle.machine.specs.Claims.{Event, mark, aProbe, anAnnouncement, timesOf, Claim, claimsOf}
@@ -152,17 +153,6 @@ lines s (call ∷ later) = record { report = resultOf s call .report; out = resu
 
 abbrev pub line : Kind → Option ℕ → Option ℕ → List ℕ → Line
 line did slot next out = record { report = accepted (record { kind = did; slot = slot; next = next }); out = out }
-
--- "Before the first fresh is accepted the state is all zeros."
-abbrev pub zeros : Interface
-zeros =
-    record {
-      hardware = record { 0 = 0 };
-      latest = at 0;
-      request = Never;
-      conflicts = 0;
-      records = freeRecord ∷ freeRecord ∷ freeRecord ∷ freeRecord ∷ [];
-    }
 
 abbrev pub blank : List ℕ
 blank = replicate 28 0

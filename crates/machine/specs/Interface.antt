@@ -15,7 +15,7 @@ use Rattle.rules.specs.declared.Stage.the-variants.{Free, Probing, Announced, S
 use Rattle.rules.specs.declared.Record.{Record}
 use Rattle.rules.specs.declared.Interface.{Interface}
 use Rattle.machine.specs.Timing.{rfc5227}
-use Rattle.machine.specs.Slots.{any, all}
+use Rattle.machine.specs.Slots.{freeRecord, any, all}
 
 -- "The own hardware address isn't zero and its first byte is even." A number of 2^48 or more is no address
 -- (docs/DECISIONS.md, 2).
@@ -99,3 +99,14 @@ isSound s =
     && isPast (s .latest) (s .request)
     && all (isSoundRecord (s .latest)) (s .records)
     && holdsNoneTwice (s .records)
+
+-- "Before the first `fresh` is accepted the state is all zeros": it is not sound.
+abbrev pub zeros : Interface
+zeros =
+    record {
+      hardware = record { 0 = 0 };
+      latest = record { 0 = 0 };
+      request = Never;
+      conflicts = 0;
+      records = freeRecord ∷ freeRecord ∷ freeRecord ∷ freeRecord ∷ [];
+    }
