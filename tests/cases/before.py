@@ -2,7 +2,10 @@
 
 THEIR_PROBE_7 = b'00010800060400010200000000bb00000000000000000000c0000207'
 
-ROWS = [
+# The answers to these, all in the first read, are more than the out buffer holds: 24,000 times 11 bytes.
+FULL = [(b'', b'refused 14', 'an empty line')] * 24_000
+
+ROWS = FULL + [
     (b'ask\t100\t192.0.2.7\t2\t500', b'refused 1', 'the state is all zeros'),
     (b'tick\t600\t0', b'refused 1', 'the state is all zeros'),
     (b'packet\t700\t' + THEIR_PROBE_7, b'refused 1', 'the state is all zeros'),

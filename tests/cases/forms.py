@@ -253,9 +253,6 @@ LONG = malformed('long, up to 4,096 bytes', [
     (b'x' * 5000, b'refused 14', 'in a row'),
 ] + UNCHANGED
 
-# More answers than the out buffer holds at once.
-FULL = malformed('many empty lines', [b''] * 60000) + UNCHANGED
-
 # The record is still there; then a line without its byte 10.
 LAST = [
     (b'packet\t0\t' + FRAME, b'ok lost 0 - -', 'the frame is a conflict after all'),
@@ -263,4 +260,4 @@ LAST = [
 ]
 UNENDED = (b'tick\t0\t0', b'refused 14', 'reading 11: in the form, but unended')
 
-ROWS = HELD + WORDS + TABS + NUMBERS + LARGE_NUMBERS + ADDRESSES + HARDWARE + BYTES + FOREIGN_ENDS + LONG + FULL + LAST
+ROWS = HELD + WORDS + TABS + NUMBERS + LARGE_NUMBERS + ADDRESSES + HARDWARE + BYTES + FOREIGN_ENDS + LONG + LAST
