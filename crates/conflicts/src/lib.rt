@@ -13,7 +13,7 @@ ghost use Rattle.machine.specs.Interface.{isOurs};
 ghost use Rattle.machine.specs.Conflicts.{isFrom, probesFor, isConflict};
 
 // Whether a hardware address is ours.
-pub fn is_ours(own: HardwareAddress, other: HardwareAddress) -> bool
+fn is_ours(own: HardwareAddress, other: HardwareAddress) -> bool
     ensures { λ r. ⌜ r ≡ isOurs own other ⌝ }
 {
     other.0 == own.0
@@ -50,7 +50,7 @@ fn is_conflict_usable(own: HardwareAddress, frame: Frame, address: Ipv4Address) 
 }
 
 // Whether a packet is a conflict with a record.
-pub fn is_conflict(own: HardwareAddress, frame: Frame, held: Record) -> bool
+fn is_conflict(own: HardwareAddress, frame: Frame, held: Record) -> bool
     ensures { λ r. ⌜ r ≡ isConflict own frame held ⌝ }
 {
     let address = held.address;

@@ -10,7 +10,7 @@ ghost use Rattle.machine.specs.Slots.{lowest, isJust};
 ghost use Rattle.machine.specs.Deadlines.{deadlineOf, hasDeadline, smaller, smallestDeadline, dueSlot};
 
 // A stage's deadline.
-pub fn deadline(stage: Stage) -> Moment
+fn deadline(stage: Stage) -> Moment
     ensures { λ r. ⌜ timeOf r ≡ deadlineOf stage ⌝ }
 {
     match stage {
@@ -25,7 +25,7 @@ pub fn deadline(stage: Stage) -> Moment
 }
 
 // The earlier of two deadlines.
-pub fn earlier(one: Moment, other: Moment) -> Moment
+fn earlier(one: Moment, other: Moment) -> Moment
     ensures { λ r. ⌜ timeOf r ≡ smaller (timeOf one) (timeOf other) ⌝ }
 {
     match one {

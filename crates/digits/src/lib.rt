@@ -19,7 +19,7 @@ pub fn put(text: &[u8], out: &mut [u8], at: usize) -> usize
 }
 
 // How many digits a number has, counted two at a time.
-pub fn digit_count(n: u64) -> usize
+fn digit_count(n: u64) -> usize
     ensures { λ r. ⌜ r ≡ length (decimal n) ⌝ }
 {
     let mut count: usize = 0;
@@ -32,7 +32,7 @@ pub fn digit_count(n: u64) -> usize
 }
 
 // The last digit of a number.
-pub fn digit(n: u64) -> u8
+fn digit(n: u64) -> u8
     ensures { λ r. ⌜ r ≡ 48 + n % 10 ⌝ }
 {
     48 + (n % 10) as u8
@@ -61,7 +61,7 @@ pub fn put_decimal(n: u64, out: &mut [u8], at: usize) -> usize
     end
 }
 
-pub fn hex_glyph(digit: u8) -> u8
+fn hex_glyph(digit: u8) -> u8
     requires { ⌜ digit < 16 ⌝ }
     ensures { λ r. ⌜ r ≡ hexGlyph digit ⌝ }
 {

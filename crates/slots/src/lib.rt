@@ -53,7 +53,7 @@ pub fn free_slot(records: [Record; 4]) -> SlotNumber
 }
 
 // Whether a record holds an address.
-pub fn is_holder(holder: Record, address: Ipv4Address) -> bool
+fn is_holder(holder: Record, address: Ipv4Address) -> bool
     ensures { λ r. ⌜ r ≡ holds address holder ⌝ }
 {
     let stage = holder.stage;

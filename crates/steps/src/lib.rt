@@ -1,5 +1,5 @@
-// The steps that the calls share: a slot read and written, what a call decides, and the decision carried
-// out. A call decides first and changes the state once, so that the state is not copied at each turn of its way.
+// The steps that the calls share: a slot read and written, what a call decides, and the decision carried out. A call decides first
+// and changes the state once, so that the state is not copied at each turn of its way.
 use rules::Answer;
 use rules::Called;
 use rules::Frame;
@@ -70,7 +70,7 @@ pub fn record_at(records: [Record; 4], slot: u64) -> Record
 }
 
 // The records with this one in a slot, where there is one.
-pub fn put_at(records: [Record; 4], slot: SlotNumber, new: Record) -> [Record; 4]
+fn put_at(records: [Record; 4], slot: SlotNumber, new: Record) -> [Record; 4]
     ensures { λ r. ⌜ r ≡ putAt records (slotOf slot) new ⌝ }
 {
     match slot {

@@ -21,9 +21,6 @@ some-left (b ∷ left) = lt-ltb 0 (suc (length left)) (omega arith)
 pub rest-of : (at : ℕ) (l : List ℕ) → take (length l - at) (drop at l) ≡ drop at l
 rest-of at l = take-all (length l - at) (drop at l) (simp length-drop (omega arith))
 
-pub length-rest : (at : ℕ) (l : List ℕ) → length (take (length l - at) (drop at l)) ≡ length l - at
-length-rest at l = ap length (rest-of at l) ∙ length-drop at l
-
 -- A text written at the start of that part, and the part put back.
 pub put-back : (at : ℕ) (text out part : List ℕ)
     → part ≡ written text (take (length out - at) (drop at out))
