@@ -18,7 +18,7 @@ use Rattle.answers.specs.Parts.{sends, shown}
 use Rattle.lines.proofs.HexLaws.{hex-length}
 use Rattle.answers.proofs.Puts.{put-as, put-append}
 
-pub kind-within : (kind : Kind) → length (okWord ++ (tab ∷ kindWord kind)) ≤ 11
+kind-within : (kind : Kind) → length (okWord ++ (tab ∷ kindWord kind)) ≤ 11
 unfolding kindWord
 kind-within Fresh = lit≤ tt
 kind-within Taken = lit≤ tt
@@ -31,6 +31,10 @@ kind-within Kept = lit≤ tt
 kind-within Dropped = lit≤ tt
 
 module _ {m at next : ℕ} {old new : List ℕ} where
+  pub kind-put : {kind same : Kind} → kind ≡ same → Put (okWord ++ (tab ∷ kindWord same)) m at old new next →
+      Put (okWord ++ (tab ∷ kindWord kind)) 11 at old new next
+  kind-put {same = same} e p = rw e (put-as refl (kind-within same) p)
+
   pub none-put : {number : Option ℕ} → number ≡ none → Put (tab ∷ dash) m at old new next →
       Put (tab ∷ numberText number) 21 at old new next
   none-put e p = rw e (put-as refl (lit≤ tt) p)

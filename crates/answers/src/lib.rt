@@ -83,83 +83,22 @@ fn put_frame(kind: Kind, frame: &[u8; 28], out: &mut [u8], at: usize) -> usize
     }
 }
 
-// How an accepted answer begins, padded to the longest.
-const FRESH: [u8; 11] = *b"ok\tfresh   ";
-
-const TAKEN: [u8; 11] = *b"ok\ttaken   ";
-
-const NOTHING: [u8; 11] = *b"ok\tnone    ";
-
-const PROBE: [u8; 11] = *b"ok\tprobe   ";
-
-const ANNOUNCE: [u8; 11] = *b"ok\tannounce";
-
-const DEFEND: [u8; 11] = *b"ok\tdefend  ";
-
-const LOST: [u8; 11] = *b"ok\tlost    ";
-
-const KEPT: [u8; 11] = *b"ok\tkept    ";
-
-const DROPPED: [u8; 11] = *b"ok\tdropped ";
-
-// A text and its padding.
-struct Padded {
-    text: [u8; 11],
-    length: usize,
-}
-
-// `ok` and the kind.
-fn beginning(kind: Kind) -> Padded
-    ensures { λ r. ⌜ (r .length ≤ length (r .text)) × (take (r .length) (r .text) ≡ okWord ++ (tab ∷ kindWord kind)) ⌝ }
-{
-    match kind {
-        Kind::Fresh => Padded {
-            text: FRESH,
-            length: 8,
-        },
-        Kind::Taken => Padded {
-            text: TAKEN,
-            length: 8,
-        },
-        Kind::Nothing => Padded {
-            text: NOTHING,
-            length: 7,
-        },
-        Kind::Probe => Padded {
-            text: PROBE,
-            length: 8,
-        },
-        Kind::Announce => Padded {
-            text: ANNOUNCE,
-            length: 11,
-        },
-        Kind::Defend => Padded {
-            text: DEFEND,
-            length: 9,
-        },
-        Kind::Lost => Padded {
-            text: LOST,
-            length: 7,
-        },
-        Kind::Kept => Padded {
-            text: KEPT,
-            length: 7,
-        },
-        Kind::Dropped => Padded {
-            text: DROPPED,
-            length: 10,
-        },
-    }
-}
-
+// `ok` and the kind. Each kind puts a text of its own, whose length the compiler knows.
 fn put_kind(kind: Kind, out: &mut [u8]) -> usize
     requires { ⌜ 11 ≤ length (now out) ⌝ }
     ensures { λ r. ⌜ Put (okWord ++ (tab ∷ kindWord kind)) 11 0 (now (out .entry)) (now (out .exit)) r ⌝ }
 {
-    let begun = beginning(kind);
-    let text = begun.text;
-    let length = begun.length;
-    digits::put(&text[..length], out, 0)
+    match kind {
+        Kind::Fresh => digits::put(b"ok\tfresh", out, 0),
+        Kind::Taken => digits::put(b"ok\ttaken", out, 0),
+        Kind::Nothing => digits::put(b"ok\tnone", out, 0),
+        Kind::Probe => digits::put(b"ok\tprobe", out, 0),
+        Kind::Announce => digits::put(b"ok\tannounce", out, 0),
+        Kind::Defend => digits::put(b"ok\tdefend", out, 0),
+        Kind::Lost => digits::put(b"ok\tlost", out, 0),
+        Kind::Kept => digits::put(b"ok\tkept", out, 0),
+        Kind::Dropped => digits::put(b"ok\tdropped", out, 0),
+    }
 }
 
 // The byte 10 that ends every answer.

@@ -24,15 +24,21 @@ fn deadline(stage: Stage) -> Moment
     }
 }
 
-// The earlier of two deadlines.
+// The earlier of two deadlines, made anew.
 fn earlier(one: Moment, other: Moment) -> Moment
     ensures { λ r. ⌜ timeOf r ≡ smaller (timeOf one) (timeOf other) ⌝ }
 {
     match one {
-        Moment::Never => other,
+        Moment::Never => copies::moment(other),
         Moment::At(a) => match other {
-            Moment::Never => one,
-            Moment::At(b) => { if a.0 <= b.0 { one } else { other } }
+            Moment::Never => Moment::At(a),
+            Moment::At(b) => {
+                if a.0 <= b.0 {
+                    Moment::At(a)
+                } else {
+                    Moment::At(b)
+                }
+            }
         },
     }
 }

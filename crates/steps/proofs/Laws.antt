@@ -1,10 +1,13 @@
 -- A law for each way that a function ends.
-use Prim.Native.Nat.{ℕ, _≤_}
-use mathlib.Core.Path.{_≡_, sym, _∙_}
-use mathlib.Core.List.{List}
+use Prim.Native.Nat.{ℕ, zero, suc, _≤_, _<_}
+use mathlib.Core.Path.{_≡_, refl, sym, ap, _∙_}
+use mathlib.Core.Bool.{false, cond}
+use mathlib.Core.List.{List, [], _∷_}
 use native.Mathlib.Omega.{arith}
-use lib.ListN.{length, set, List·getD-eq-default}
+use lib.Dec.{eqb}
+use lib.ListN.{length, getD, set, List·getD-eq-default}
 use lib.Seq.{set-out}
+use borrow.Author.Tests.{eq-eqb, ne-eqb}
 use Rattle.rules.specs.Answers.{slotOf, timeOf, answerReport}
 use Rattle.rules.specs.Frame.{writeOut}
 use Rattle.rules.specs.declared.Frame.{Frame}
@@ -17,6 +20,7 @@ use Rattle.rules.specs.declared.SlotNumber.{SlotNumber}
 use Rattle.rules.specs.declared.SlotNumber.the-variants.{Slot}
 use Rattle.rules.specs.declared.Answer.{Answer}
 use Rattle.rules.specs.declared.Answer.the-variants as Answer
+use Rattle.copies.proofs.Laws.{four-records}
 use Rattle.machine.specs.Slots.{freeRecord, recordAt, putAt}
 use Rattle.machine.specs.Deadlines.{smallestDeadline}
 use Rattle.steps.specs.declared.Outgoing.{Outgoing}
@@ -31,17 +35,45 @@ pub out-written : (frame : Outgoing) (f : Frame) → frame ≡ Request f → (ou
     after ≡ sentOut (frameIn frame) out
 out-written frame f e out after w = rw e w
 
--- Above the last slot there is the free record, and nothing to replace.
-module _ (records : List Record) (four : length records ≡ 4) (n : ℕ) (above : 4 ≤ n) where
-  pub record-above : (r : Record) → r ≡ freeRecord → r ≡ recordAt records n
-  record-above r e = e ∙ sym (List·getD-eq-default records freeRecord (omega arith))
+-- Above the last slot there is the free record.
+pub record-above : (records : List Record) → length records ≡ 4 → (n : ℕ) → 4 ≤ n → (r : Record) → r ≡ freeRecord → r ≡ recordAt records n
+record-above records four n above r e = e ∙ sym (List·getD-eq-default records freeRecord (omega arith))
 
-  pub put-above : (slot : SlotNumber) → slot ≡ Slot n → (new : Record) → records ≡ putAt records (slotOf slot) new
-  put-above slot e new = rw e (sym (set-out records n new (omega arith)))
+module _ (slot place : ℕ) (old new : Record) where
+  pub replaced-here : slot ≡ place → new ≡ cond (eqb slot place) new old
+  replaced-here e = rw (eq-eqb slot place e)
 
-pub put-within : (records : List Record) (n : ℕ) (slot : SlotNumber) → slot ≡ Slot n → (new : Record) →
-    set records n new ≡ putAt records (slotOf slot) new
-put-within records n slot e new = rw e
+  pub replaced-elsewhere : (slot ≡ place → ⊥) → old ≡ cond (eqb slot place) new old
+  replaced-elsewhere e = rw (ne-eqb slot place e)
+
+pub ruleset replaced-ends = (replaced-here, replaced-elsewhere)
+
+-- Four records, each replaced if the slot is its own, are the records with that slot's replaced.
+module _ (a b c d : Record) where
+  all-elsewhere : (n : ℕ) → 4 ≤ n → (new : Record) →
+      cond (eqb 0 n) new a ∷ cond (eqb 1 n) new b ∷ cond (eqb 2 n) new c ∷ cond (eqb 3 n) new d ∷ [] ≡ set (a ∷ b ∷ c ∷ d ∷ []) n new
+  all-elsewhere n h new =
+      rw (other 0 (omega arith), other 1 (omega arith), other 2 (omega arith), other 3 (omega arith))
+      (sym (set-out (a ∷ b ∷ c ∷ d ∷ []) n new (omega arith)))
+    where
+      other : (slot : ℕ) → slot < n → eqb slot n ≡ false
+      other slot below = ne-eqb slot n (λ e. omega (arith, e, below))
+
+  each-replaced : (n : ℕ) (new : Record) →
+      cond (eqb 0 n) new a ∷ cond (eqb 1 n) new b ∷ cond (eqb 2 n) new c ∷ cond (eqb 3 n) new d ∷ [] ≡ set (a ∷ b ∷ c ∷ d ∷ []) n new
+  each-replaced zero new = refl
+  each-replaced (suc zero) new = refl
+  each-replaced (suc (suc zero)) new = refl
+  each-replaced (suc (suc (suc zero))) new = refl
+  each-replaced (suc (suc (suc (suc n)))) new = all-elsewhere (suc (suc (suc (suc n)))) (omega arith) new
+
+pub slot-put : (records : List Record) → length records ≡ 4 → (none : Record) (n : ℕ) (slot : SlotNumber) → slot ≡ Slot n →
+    (new first second third fourth : Record) →
+    first ≡ cond (eqb 0 n) new (getD records 0 none) → second ≡ cond (eqb 1 n) new (getD records 1 none) →
+    third ≡ cond (eqb 2 n) new (getD records 2 none) → fourth ≡ cond (eqb 3 n) new (getD records 3 none) →
+    first ∷ second ∷ third ∷ fourth ∷ [] ≡ putAt records (slotOf slot) new
+slot-put records four none n slot is new first second third fourth e f g h =
+    rw (is, e, f, g, h) (each-replaced _ _ _ _ n new ∙ ap (λ (rs : List Record). set rs n new) (four-records records four none))
 
 module _ (verdict : Verdict) (slot : SlotNumber) (records : List Record) where
   pub refusal-told : (refusal : Refusal) → verdict ≡ Verdict.Refused refusal →

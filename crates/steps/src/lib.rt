@@ -13,6 +13,8 @@ use rules::SlotNumber;
 use rules::Stage;
 use rules::Time;
 ghost use mathlib.Core.Path.{_≡_};
+ghost use mathlib.Core.Bool.{cond};
+ghost use lib.Dec.{eqb};
 ghost use Rattle.rules.specs.Answers.{refusalNumber, slotOf, answerReport};
 ghost use Rattle.machine.specs.Slots.{freeRecord, recordAt, putAt};
 ghost use Rattle.machine.specs.Calls as Calls;
@@ -69,19 +71,26 @@ pub fn record_at(records: [Record; 4], slot: u64) -> Record
     }
 }
 
-// The records with this one in a slot, where there is one.
+// The record of a slot, or the new one if that is for this slot.
+fn replaced(slot: u64, old: Record, place: u64, new: Record) -> Record
+    ensures { λ r. ⌜ r ≡ cond (eqb slot place) new old ⌝ }
+{
+    if slot == place { new } else { old }
+}
+
+// The records with this one in a slot, where there is one. Each of the four is named: an index that may be any of them would keep
+// them all in memory.
 fn put_at(records: [Record; 4], slot: SlotNumber, new: Record) -> [Record; 4]
     ensures { λ r. ⌜ r ≡ putAt records (slotOf slot) new ⌝ }
 {
     match slot {
         SlotNumber::Absent => records,
         SlotNumber::Slot(n) => {
-            let mut changed = records;
-            if n < 4 {
-                let i = n as usize;
-                changed[i] = new;
-            }
-            changed
+            let first = replaced(0, records[0], n, new);
+            let second = replaced(1, records[1], n, new);
+            let third = replaced(2, records[2], n, new);
+            let fourth = replaced(3, records[3], n, new);
+            [first, second, third, fourth]
         }
     }
 }

@@ -136,7 +136,8 @@ pub fn work(stream: Stream, input: &[u8], out: &mut [u8]) -> Worked
         }
         sound = is_sound(state, sound);
         let answered = answer_at(state, sound, skipping, line, out, done);
-        state = answered.state;
+        let next = answered.state;
+        state = copies::interface(next);
         skipping = false;
         at += line.len() + 1;
         done += answered.written;

@@ -1,36 +1,57 @@
--- `answers::put_kind`: as many bytes as the beginning has.
-use mathlib.Core.Path.{sym, ap}
-use native.Mathlib.Omega.{arith}
-use lib.ListN.{length}
-use lib.Seq.{length-take-le}
+-- `answers::put_kind`: each kind's word.
 use borrow.Author.Needs.{needs}
-use Rattle.answers.proofs.Puts.{put-as}
-use Rattle.answers.proofs.Fields.{kind-within}
+use Rattle.rules.specs.Answers.{kindWord}
+use Rattle.answers.proofs.Fields.{kind-put}
 use Rattle.answers.proofs.put_kind.Statement.{statement}
 use Rattle.answers.proofs.put_kind.Tie as tie
 
-slice-aggregate-put : tie.Need-slice-aggregate-put
-slice-aggregate-put c =
-    let begun = c .before .before .beginning in
-    sym (length-take-le (begun .result .length) (begun .result .text) (begun .ensures .0))
-
-put-requires : tie.Need-put-requires
-put-requires c κs =
-    let begun = c .before .before .before in
-    omega (arith, ap length (begun .beginning .ensures .1), kind-within (begun .before .before .args .kind))
-
-returns : tie.Need-returns
-returns c =
-    let begun = c .before .before .before .before .before .before in
-    put-as (begun .beginning .ensures .1) (kind-within (begun .before .before .args .kind)) (c .before .before .put .ensures)
-
 pub put-kind-spec : {M : Type 1} → statement M
+unfolding kindWord
 put-kind-spec =
     tie.close
     (tie.spec
+    (λ c. search needs)
+    (λ c. search needs)
     (λ c κs. search needs)
     (λ c. search needs)
-    slice-aggregate-put
-    put-requires
     (λ c. search needs)
-    returns)
+    (λ c κs. search needs)
+    (λ c. search needs)
+    (λ c. search needs)
+    (λ c κs. search needs)
+    (λ c. search needs)
+    (λ c. search needs)
+    (λ c κs. search needs)
+    (λ c. search needs)
+    (λ c. search needs)
+    (λ c κs. search needs)
+    (λ c. search needs)
+    (λ c. search needs)
+    (λ c κs. search needs)
+    (λ c. search needs)
+    (λ c. search needs)
+    (λ c κs. search needs)
+    (λ c. search needs)
+    (λ c. search needs)
+    (λ c κs. search needs)
+    (λ c. search needs)
+    (λ c. search needs)
+    (λ c κs. search needs)
+    (λ c. search needs)
+    (λ c. kind-put (c .before .before .before .before .before .enum-told .given .1) (c .before .before .put .ensures))
+    (λ c. search needs)
+    (λ c. kind-put (c .before .before .before .before .before .enum-told2 .given .1) (c .before .before .put2 .ensures))
+    (λ c. search needs)
+    (λ c. kind-put (c .before .before .before .before .before .enum-told3 .given .1) (c .before .before .put3 .ensures))
+    (λ c. search needs)
+    (λ c. kind-put (c .before .before .before .before .before .enum-told4 .given .1) (c .before .before .put4 .ensures))
+    (λ c. search needs)
+    (λ c. kind-put (c .before .before .before .before .before .enum-told5 .given .1) (c .before .before .put5 .ensures))
+    (λ c. search needs)
+    (λ c. kind-put (c .before .before .before .before .before .enum-told6 .given .1) (c .before .before .put6 .ensures))
+    (λ c. search needs)
+    (λ c. kind-put (c .before .before .before .before .before .enum-told7 .given .1) (c .before .before .put7 .ensures))
+    (λ c. search needs)
+    (λ c. kind-put (c .before .before .before .before .before .enum-told8 .given .1) (c .before .before .put8 .ensures))
+    (λ c. search needs)
+    (λ c. kind-put (c .before .before .before .before .before .enum-told9 .given .1) (c .before .before .put9 .ensures)))

@@ -1,17 +1,28 @@
--- `steps::put_at`: no slot, one of the four, above them.
+-- `steps::put_at`: no slot, or each of the four by its number.
 use borrow.Author.Needs.{needs}
-use Rattle.steps.proofs.Laws.{put-within, put-above}
+use Rattle.steps.proofs.Laws.{slot-put}
 use Rattle.steps.proofs.put_at.Statement.{statement}
 use Rattle.steps.proofs.put_at.Tie as tie
 
-returns : tie.Need-returns
-returns c = search needs
-
 returns-2 : tie.Need-returns-2
-returns-2 c = search put-within
-
-returns-3 : tie.Need-returns-3
-returns-3 c = search put-above
+returns-2 c =
+    let first = c .before .before .before .before .before .before in
+    slot-put
+    _
+    (search (first .before .before .before .before .before .good))
+    _
+    _
+    _
+    (first .before .before .before .slot .given .1)
+    _
+    _
+    _
+    _
+    _
+    (first .replaced .ensures)
+    (c .before .before .before .before .replaced2 .ensures)
+    (c .before .before .replaced3 .ensures)
+    (c .replaced4 .ensures)
 
 pub put-at-spec : {M : Type 1} → statement M
 put-at-spec =
@@ -20,7 +31,12 @@ put-at-spec =
     (λ c. search needs)
     (λ c. search needs)
     (λ c. search needs)
+    (λ c κs. search needs)
     (λ c. search needs)
-    returns
-    returns-2
-    returns-3)
+    (λ c κs. search needs)
+    (λ c. search needs)
+    (λ c κs. search needs)
+    (λ c. search needs)
+    (λ c κs. search needs)
+    (λ c. search needs)
+    returns-2)

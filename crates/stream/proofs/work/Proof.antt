@@ -1,9 +1,10 @@
 -- `stream::work`: a turn answers a line; the loop ends where no byte 10 is left, or no room.
 use Prim.Native.Nat.{_-_}
-use mathlib.Core.Path.{_≡_}
+use mathlib.Core.Path.{_≡_, _∙_}
 use mathlib.Core.Bool.{true, false≢true}
 use native.Mathlib.Omega.{arith}
 use lib.ListN.{length}
+use borrow.Author.Needs.{needs}
 use Rattle.machine.specs.Interface.{isSound}
 use Rattle.stream.proofs.Turns.{Turns, begins, carried, turn, stops, waits}
 use Rattle.stream.proofs.work.Statement.{statement}
@@ -60,28 +61,31 @@ add-at : tie.Need-add-at Inv-loop μ-loop
 add-at c = omega arith
 
 add-at-2 : tie.Need-add-at-2 Inv-loop μ-loop
-add-at-2 c = omega arith
+add-at-2 c =
+    let found = c .before .before .before .before .before .before .before .before .before in
+    omega (arith, found .line-at, found .before .loop, found .before .before .before .before .before .good)
 
 loop-again : tie.Need-loop-again Inv-loop μ-loop
 loop-again c =
-    let answer = c .before .before .before .before .answer-at in
-    let sure = c .before .before .before .before .before .before .is-sound in
-    let room = c .before .before .before .before .before .before .before in (
+    let answer = c .before .before .before .before .before .answer-at in
+    let sure = c .before .before .before .before .before .before .before .is-sound in
+    let room = c .before .before .before .before .before .before .before .before in
+    let next = c .before .interface .ensures ∙ answer .ensures .0 in (
       turn
           (room .before .before .before .loop .inv .0)
           (room .before .before .line-at .ensures)
           (room .before .if1 .left)
           (room .if3 .left)
-          (answer .ensures .0)
+          next
           (answer .ensures .1 .0)
           (answer .ensures .1 .1)
           (answer .kept .1 .1 .1 .1 .0),
-      carried (room .before .before .before .loop .inv .0) (room .before .before .line-at .ensures) (answer .ensures .0) (sure .ensures),
+      carried (room .before .before .before .loop .inv .0) (room .before .before .line-at .ensures) next (sure .ensures),
     )
 
 add-done : tie.Need-add-done Inv-loop μ-loop
 add-done c =
-    let lent = c .before .before .before .before .before .before .before .before .before .before .before .before .before .before in
+    let lent = c .before .before .before .before .before .before .before .before .before .before .before .before .before .before .before in
     omega (arith, loop-again c .0 .room, lent .good .1 .1 .0)
 
 loop-less : tie.Need-loop-less Inv-loop μ-loop
@@ -105,6 +109,7 @@ work-spec =
     returns-3
     is-sound-requires
     answer-at-requires
+    (λ c κs. search needs)
     add-at
     add-at-2
     add-done

@@ -1,0 +1,14 @@
+-- `steps::replaced`: here, or elsewhere.
+use borrow.Author.Needs.{needs}
+use Rattle.steps.proofs.Laws.{replaced-ends}
+use Rattle.steps.proofs.replaced.Statement.{statement}
+use Rattle.steps.proofs.replaced.Tie as tie
+
+returns : tie.Need-returns
+returns c = search replaced-ends
+
+returns-2 : tie.Need-returns-2
+returns-2 c = search replaced-ends
+
+pub replaced-spec : {M : Type 1} → statement M
+replaced-spec = tie.close (tie.spec returns returns-2)
