@@ -1,0 +1,111 @@
+//! One input for both programs: several histories, and how it arrives.
+
+use crate::coverage::Coverage;
+use crate::generator::Generator;
+use crate::places::Part;
+use crate::random::Random;
+
+pub struct Batch {
+    pub input: Vec<u8>,
+    /// The lengths in which the input is written; none for all at once.
+    pub pieces: Vec<usize>,
+    pub lines: u64,
+    pub coverage: Coverage,
+}
+
+impl Batch {
+    /// Batch `number` of a run with this seed.
+    pub fn new(seed: u64, number: u64) -> Batch {
+        let mut generator = Generator::new(Random::part(seed, number));
+        if number % 40 == 5 {
+            generator.unborn(2000);
+        } else {
+            fill(&mut generator);
+        }
+        end(&mut generator, number);
+        let Generator {
+            mut random,
+            input,
+            lines,
+            mut coverage,
+            ..
+        } = generator;
+        let pieces = if number % 2 == 1 {
+            pieces(&mut random, input.len())
+        } else {
+            Vec::new()
+        };
+        count_pieces(&mut coverage, &pieces);
+        Batch {
+            input,
+            pieces,
+            lines,
+            coverage,
+        }
+    }
+}
+
+fn fill(generator: &mut Generator) {
+    let wanted = generator.random.between(10_000, 30_000);
+    if generator.random.once_in(2) {
+        let lines = generator.random.between(1, 60);
+        generator.unborn(lines);
+    }
+    while generator.lines < wanted {
+        let lines = generator.random.between(5, 400);
+        generator.history(lines);
+    }
+}
+
+/// The last line: ended, or unended and in the form, or not, or too long.
+fn end(generator: &mut Generator, number: u64) {
+    let malformed = number % 3 == 2;
+    while generator.answers.ends_with(b"refused\t14\n") != malformed {
+        if malformed {
+            generator.broken_line();
+        } else {
+            generator.line();
+        }
+    }
+    let row = match number % 6 {
+        0 | 3 => return generator.coverage.hit(Part::Cuts, 5),
+        1 | 4 => 6,
+        2 => 7,
+        _ => 8,
+    };
+    generator.coverage.hit(Part::Cuts, row);
+    generator.input.pop();
+    if row == 8 {
+        let length = generator.random.between(4097, 70_000) as usize;
+        generator.input.extend(std::iter::repeat_n(b'7', length));
+    }
+}
+
+/// Lengths from 1 byte to 64 KiB, each order of size as likely as the others,
+/// now and then a run of single bytes.
+pub fn pieces(random: &mut Random, length: usize) -> Vec<usize> {
+    let mut pieces = Vec::new();
+    let mut left = length;
+    while left > 0 {
+        let most = 1 << random.below(17);
+        let times = if most == 1 { random.between(1, 60) } else { 1 };
+        for _ in 0..times {
+            let piece = (random.between(1, most) as usize).min(left);
+            if piece > 0 {
+                pieces.push(piece);
+            }
+            left -= piece;
+        }
+    }
+    pieces
+}
+
+fn count_pieces(coverage: &mut Coverage, pieces: &[usize]) {
+    if pieces.is_empty() {
+        return;
+    }
+    coverage.hit(Part::Cuts, 0);
+    coverage.add(Part::Cuts, 1, pieces.len() as u64);
+    let single = pieces.iter().filter(|piece| **piece == 1).count();
+    coverage.add(Part::Cuts, 2, single as u64);
+}

@@ -1,0 +1,227 @@
+//! Writes histories line by line. Each line is answered by the twin as it is
+//! written, so that the next one can fit the state.
+
+use twin::Replay;
+
+use crate::answer::Answer;
+use crate::book::{Book, RANGE_END};
+use crate::call::Call;
+use crate::choose::{self, Met};
+use crate::coverage::Coverage;
+use crate::flaws;
+use crate::mutate::{MUTATIONS, Need};
+use crate::observe;
+use crate::places::Part;
+use crate::random::Random;
+use crate::temper::{Sort, Temper};
+use crate::values;
+
+pub struct Generator {
+    pub random: Random,
+    /// All lines so far, each with its byte 10.
+    pub input: Vec<u8>,
+    /// The twin's answer to each.
+    pub answers: Vec<u8>,
+    pub lines: u64,
+    pub coverage: Coverage,
+    replay: Replay,
+    book: Book,
+    temper: Temper,
+}
+
+impl Generator {
+    pub fn new(mut random: Random) -> Generator {
+        let temper = Temper::new(&mut random);
+        Generator {
+            random,
+            input: Vec::new(),
+            answers: Vec::new(),
+            lines: 0,
+            coverage: Coverage::new(),
+            replay: Replay::new(),
+            book: Book::default(),
+            temper,
+        }
+    }
+
+    /// An accepted fresh and this many lines after it.
+    pub fn history(&mut self, lines: u64) {
+        self.temper = Temper::new(&mut self.random);
+        let hardware = values::own_hardware(&mut self.random);
+        self.say(&Call::Fresh { hardware }, None);
+        let time = self.temper.start;
+        self.say(&Call::Tick { time, draw: 0 }, None);
+        for _ in 0..lines {
+            self.line();
+            if self.book.latest == RANGE_END && self.random.once_in(40) {
+                return;
+            }
+        }
+    }
+
+    /// Lines without an accepted fresh, for the state before the first.
+    pub fn unborn(&mut self, lines: u64) {
+        for _ in 0..lines {
+            let mut call = self.any_call();
+            if let Call::Fresh { hardware } = &mut call {
+                *hardware = values::refused_hardware(&mut self.random);
+            }
+            match self.random.below(4) {
+                0 => flaws::spoil(&mut self.random, &self.book, &mut call),
+                1 if !matches!(call, Call::Fresh { .. }) => {
+                    self.broken(&call);
+                    continue;
+                }
+                _ => {}
+            }
+            self.say(&call, None);
+        }
+    }
+
+    /// One line of the sort that the temper gives.
+    pub fn line(&mut self) {
+        let sort = self.sort();
+        let random = &mut self.random;
+        match sort {
+            Sort::Ask => {
+                let call = choose::ask(random, &self.book, &self.temper);
+                self.say(&call, None);
+            }
+            Sort::Tick => self.tick(),
+            Sort::Meet => match choose::packet(random, &self.book, &self.temper) {
+                Some((call, met)) => self.say(&call, Some(met)),
+                None => self.tick(),
+            },
+            Sort::Drop => {
+                let call = choose::drop(random, &self.book);
+                self.say(&call, None);
+            }
+            Sort::Fresh => {
+                let call = choose::fresh(random);
+                self.say(&call, None);
+            }
+            Sort::Flawed => {
+                let mut call = self.any_call();
+                flaws::spoil(&mut self.random, &self.book, &mut call);
+                self.say(&call, None);
+            }
+            Sort::Broken => self.broken_line(),
+        }
+    }
+
+    /// The temper's sort, or another where that one would change nothing:
+    /// seldom a tick with nothing to wait for, or an ask without a free slot.
+    fn sort(&mut self) -> Sort {
+        let sort = self.temper.sort(&mut self.random);
+        let full = self.book.held().count() == 4;
+        let next = self.book.next_deadline();
+        let waiting = next.is_some_and(|deadline| deadline <= RANGE_END);
+        match sort {
+            _ if self.random.once_in(6) => sort,
+            Sort::Tick if !waiting && !full => Sort::Ask,
+            Sort::Tick if !waiting => Sort::Drop,
+            Sort::Ask if full && waiting => Sort::Tick,
+            Sort::Ask if full => Sort::Meet,
+            _ => sort,
+        }
+    }
+
+    fn tick(&mut self) {
+        let call = choose::tick(&mut self.random, &self.book);
+        self.say(&call, None);
+    }
+
+    /// Any call that fits the state.
+    fn any_call(&mut self) -> Call {
+        let random = &mut self.random;
+        match random.below(8) {
+            0 => Call::Fresh {
+                hardware: values::own_hardware(random),
+            },
+            1 => choose::tick(random, &self.book),
+            2 => choose::drop(random, &self.book),
+            3 | 4 => self.any_packet(),
+            _ => choose::ask(random, &self.book, &self.temper),
+        }
+    }
+
+    fn any_packet(&mut self) -> Call {
+        match choose::packet(&mut self.random, &self.book, &self.temper) {
+            Some((call, _)) => call,
+            None => choose::stray_packet(&mut self.random, &self.book),
+        }
+    }
+
+    /// Writes a call's line and takes down what was answered.
+    fn say(&mut self, call: &Call, met: Option<Met>) {
+        let start = self.input.len();
+        call.write(&mut self.input);
+        let answer = self.answer_from(start);
+        observe::call(&mut self.coverage, &self.book, call, answer);
+        if let (Some(met), Some(time)) = (met, call.time()) {
+            observe::meeting(&mut self.coverage, &self.book, &met, time, answer);
+        }
+        self.note(call, answer);
+    }
+
+    /// A line out of the form, or only just in it.
+    pub fn broken_line(&mut self) {
+        let call = self.any_call();
+        self.broken(&call);
+    }
+
+    /// Changes a call's line, writes that, and takes down what was answered.
+    fn broken(&mut self, call: &Call) {
+        let chosen = self
+            .random
+            .weighted(MUTATIONS.iter().map(|mutation| mutation.weight));
+        let mutation = &MUTATIONS[chosen];
+        let mut line = Vec::new();
+        self.call_for(mutation.need, call).write(&mut line);
+        (mutation.change)(&mut self.random, &mut line);
+        let start = self.input.len();
+        self.input.extend_from_slice(&line);
+        let answer = self.answer_from(start);
+        self.coverage.hit(Part::Broken, chosen);
+        if self.book.own.is_none() && answer == Answer::Refused(14) {
+            self.coverage.hit(Part::Before, 0);
+        }
+        if let (Answer::Accepted { .. }, Some(call)) = (answer, Call::read(&line)) {
+            self.note(&call, answer);
+        }
+    }
+
+    /// The call itself if it has what is needed, else another that has.
+    fn call_for(&mut self, need: Need, call: &Call) -> Call {
+        let random = &mut self.random;
+        match (need, call) {
+            (Need::Anything, _)
+            | (Need::Address | Need::Draw, Call::Ask { .. })
+            | (Need::Draw, Call::Tick { .. })
+            | (Need::Hex, Call::Fresh { .. } | Call::Packet { .. })
+            | (Need::Packet, Call::Packet { .. }) => call.clone(),
+            (Need::Time, _) if call.time().is_some() => call.clone(),
+            (Need::Time | Need::Draw, _) => choose::tick(random, &self.book),
+            (Need::Address, _) => choose::ask(random, &self.book, &self.temper),
+            (Need::Hex | Need::Packet, _) => self.any_packet(),
+        }
+    }
+
+    /// Ends the line that begins at `start` and has it answered.
+    fn answer_from(&mut self, start: usize) -> Answer {
+        let before = self.answers.len();
+        self.replay.answer(&self.input[start..], &mut self.answers);
+        self.input.push(b'\n');
+        self.lines += 1;
+        let answer = Answer::read(&self.answers[before..]);
+        observe::answer(&mut self.coverage, answer);
+        answer
+    }
+
+    fn note(&mut self, call: &Call, answer: Answer) {
+        self.book.note(call, answer);
+        if let Answer::Accepted { next, .. } = answer {
+            debug_assert_eq!(self.book.next_deadline(), next, "the book has strayed");
+        }
+    }
+}

@@ -1,0 +1,28 @@
+//! A differential fuzzer: random histories of replay lines go through a replay
+//! program and through the twin, and both have to write the same bytes.
+
+pub mod answer;
+pub mod args;
+pub mod batch;
+pub mod book;
+pub mod call;
+pub mod choose;
+pub mod compare;
+pub mod coverage;
+pub mod cuts;
+pub mod edit;
+pub mod fixed;
+pub mod flaws;
+pub mod fuzz;
+pub mod generator;
+pub mod meeting;
+pub mod mutate;
+pub mod observe;
+pub mod places;
+pub mod program;
+pub mod random;
+pub mod reasons;
+pub mod report;
+pub mod shrink;
+pub mod temper;
+pub mod values;

@@ -1,0 +1,80 @@
+//! What a history is bent on. Histories of one temper alone would miss most
+//! of the places that take many lines to reach.
+
+use std::ops::RangeInclusive;
+
+use crate::book::{ANNOUNCED, RANGE_END, SETTLED};
+use crate::random::Random;
+
+/// The sorts of lines, in the order of `Temper::weights`.
+#[derive(Clone, Copy, PartialEq, Eq)]
+pub enum Sort {
+    Ask,
+    Tick,
+    Meet,
+    Drop,
+    Fresh,
+    Flawed,
+    Broken,
+}
+
+const SORTS: [Sort; 7] = [
+    Sort::Ask,
+    Sort::Tick,
+    Sort::Meet,
+    Sort::Drop,
+    Sort::Fresh,
+    Sort::Flawed,
+    Sort::Broken,
+];
+
+const PLAIN: [u32; 7] = [14, 50, 22, 2, 1, 5, 6];
+const QUARREL: [u32; 7] = [12, 30, 48, 1, 0, 4, 5];
+const CROWD: [u32; 7] = [25, 60, 5, 1, 0, 5, 4];
+const WRONG: [u32; 7] = [15, 30, 15, 5, 4, 26, 5];
+const BROKEN: [u32; 7] = [10, 30, 10, 3, 1, 6, 40];
+
+#[derive(Clone)]
+pub struct Temper {
+    pub weights: [u32; 7],
+    /// The policy most asked for.
+    pub policy: Option<u64>,
+    /// The stages in which packets are sent.
+    pub stages: RangeInclusive<usize>,
+    /// The time at which the history begins.
+    pub start: u64,
+}
+
+impl Temper {
+    pub fn new(random: &mut Random) -> Temper {
+        let weights = random.pick(&[
+            PLAIN, PLAIN, QUARREL, QUARREL, QUARREL, CROWD, WRONG, BROKEN,
+        ]);
+        let policy = if random.once_in(2) {
+            Some(random.between(1, 3))
+        } else {
+            None
+        };
+        let stages = match random.index(12) {
+            stage @ 0..=SETTLED => stage..=stage,
+            6..=8 => 0..=SETTLED,
+            _ => ANNOUNCED..=SETTLED,
+        };
+        let start = match random.below(16) {
+            0 | 1 => RANGE_END - random.below(150_000),
+            2 => RANGE_END - random.below(400),
+            3..=5 => random.word() >> random.between(16, 63),
+            _ => random.below(5000),
+        };
+        Temper {
+            weights,
+            policy,
+            stages,
+            start,
+        }
+    }
+
+    pub fn sort(&self, random: &mut Random) -> Sort {
+        SORTS[random.weighted(self.weights.iter().copied())]
+    }
+}
