@@ -1,0 +1,44 @@
+//! Writes a mixed history of replay lines, as a ward's log would have them:
+//! history LINES SEED.
+//!
+//! It keeps a port of its own, so that most lines mean something in the state
+//! that the lines before them made.
+
+mod random;
+mod ward;
+
+use std::io::{self, BufWriter, Write};
+use std::process::ExitCode;
+
+use ward::Ward;
+
+fn main() -> ExitCode {
+    let options: Vec<u64> = std::env::args()
+        .skip(1)
+        .map_while(|word| word.parse().ok())
+        .collect();
+    let &[lines, seed] = options.as_slice() else {
+        eprintln!("usage: history LINES SEED");
+        return ExitCode::FAILURE;
+    };
+    match write(lines, seed) {
+        Ok(()) => ExitCode::SUCCESS,
+        Err(error) => {
+            eprintln!("history: {error}");
+            ExitCode::FAILURE
+        }
+    }
+}
+
+fn write(lines: u64, seed: u64) -> io::Result<()> {
+    let mut output = BufWriter::with_capacity(64 * 1024, io::stdout().lock());
+    let mut ward = Ward::new(seed);
+    let mut line = Vec::new();
+    for _ in 0..lines {
+        line.clear();
+        ward.write_line(&mut line);
+        line.push(b'\n');
+        output.write_all(&line)?;
+    }
+    output.flush()
+}
