@@ -2,18 +2,18 @@
 use Prim.Native.Nat.{ℕ, zero, suc, _+_, _-_, _≤_, _<_}
 use mathlib.Core.Path.{_≡_, refl, ap, sym, subst, _∙_}
 use mathlib.Core.Bool.{Bool, true, false, _&&_, _||_, true≢false}
-use mathlib.Core.List.{List, [], _∷_}
+use mathlib.Core.List.{List, [], _∷_, _++_}
 use native.Mathlib.Numerals.{add-one}
 use native.Mathlib.Omega.{arith}
 use lib.Dec.{eqb, ltb}
-use lib.ListN.{length, getD, take, drop, length-drop, drop-of-length-le}
-use lib.Seq.{length-take-le, take-all, take-nil, drop-length, drop-cons, drop-drop}
+use lib.ListN.{length, getD, take, drop, length-drop, drop-of-length-le, take-append-drop}
+use lib.Seq.{length-take-le, take-all, take-nil, take-append-seam, drop-length, drop-cons, drop-drop}
 use borrow.Author.Tests.{eq-eqb, lt-ltb, le-ltb, ltb-true, ltb-false}
 use Rattle.rules.specs.Bytes.{sameBytes}
 use Rattle.rules.proofs.BytesLaws.{same-equal}
 use Rattle.lines.specs.Fields.{parts, firstPart}
 use Rattle.lines.proofs.FieldLaws.{first-separator, first-other, first-length, first-take}
-use Rattle.fields.specs.Places.{endFrom, Skipped}
+use Rattle.fields.specs.Places.{endFrom, Skipped, begun}
 
 -- The first part of a text is that of what is left behind some of its bytes, with these before it.
 part-moved : (s : ℕ) (text : List ℕ) (k : ℕ)
@@ -111,19 +111,6 @@ found-part s text m n far near end first second third = ap (λ k. take k text) f
 pub found-length : (r : ℕ) (text : List ℕ) → r ≤ length text → r ≡ length (take r text)
 found-length r text h = sym (length-take-le r text h)
 
--- Sameness, as a test.
-same-self : (xs : List ℕ) → sameBytes xs xs ≡ true
-same-self [] = refl
-same-self (x ∷ xs) = ap (λ t. t && sameBytes xs xs) (eq-eqb x x refl) ∙ same-self xs
-
-pub same-test : (xs ys : List ℕ) (r : Bool) → (r ≡ true → xs ≡ ys) × (xs ≡ ys → r ≡ true) → r ≡ sameBytes xs ys
-same-test xs ys true told = sym (subst (λ l. sameBytes xs l ≡ true) (told .0 refl) (same-self xs))
-same-test xs ys false told = cases (sameBytes xs ys) refl
-  where
-    cases : (t : Bool) → sameBytes xs ys ≡ t → false ≡ sameBytes xs ys
-    cases true e = absurd (true≢false (sym (told .1 (same-equal xs ys e))))
-    cases false e = sym e
-
 -- A part up to the end, as what is left behind a place.
 pub rest-behind : (place : ℕ) (text : List ℕ) → take (length text - (place + 1)) (drop (place + 1) text) ≡ drop (suc place) text
 rest-behind place text =
@@ -139,3 +126,34 @@ nothing-behind place text h =
 -- The first bytes of a text are all of it where it has no more.
 pub start-all : (count : ℕ) (text : List ℕ) → length text ≤ count → text ≡ take count text
 start-all count text h = sym (take-all count text h)
+
+-- Sameness, as a test.
+same-self : (xs : List ℕ) → sameBytes xs xs ≡ true
+same-self [] = refl
+same-self (x ∷ xs) = ap (λ t. t && sameBytes xs xs) (eq-eqb x x refl) ∙ same-self xs
+
+same-test : (xs ys : List ℕ) (r : Bool) → (r ≡ true → xs ≡ ys) × (xs ≡ ys → r ≡ true) → r ≡ sameBytes xs ys
+same-test xs ys true told = sym (subst (λ l. sameBytes xs l ≡ true) (told .0 refl) (same-self xs))
+same-test xs ys false told = cases (sameBytes xs ys) refl
+  where
+    cases : (t : Bool) → sameBytes xs ys ≡ t → false ≡ sameBytes xs ys
+    cases true e = absurd (true≢false (sym (told .1 (same-equal xs ys e))))
+    cases false e = sym e
+
+-- `begins`: the start of a text, compared.
+pub start-test : (text front start : List ℕ) (r : Bool) → start ≡ take (length front) text
+    → (r ≡ true → start ≡ front) × (start ≡ front → r ≡ true)
+    → r ≡ begun front text
+unfolding begun
+start-test text front start r cut told = same-test start front r told ∙ ap (λ l. sameBytes l front) cut
+
+-- A text that begins with these bytes is these and what is behind them; and what is these and more begins with them.
+pub begun-is : (front text : List ℕ) → begun front text ≡ true → text ≡ front ++ drop (length front) text
+unfolding begun
+begun-is front text e =
+    sym (take-append-drop (length front) text)
+    ∙ ap (λ l. l ++ drop (length front) text) (same-equal (take (length front) text) front e)
+
+pub is-begun : (front rest : List ℕ) → begun front (front ++ rest) ≡ true
+unfolding begun
+is-begun front rest = ap (λ l. sameBytes l front) (take-append-seam front rest) ∙ same-self front

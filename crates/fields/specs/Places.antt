@@ -1,8 +1,10 @@
--- Places of a text.
+-- Places of a text, and how it begins.
 use Prim.Native.Nat.{ℕ, _+_, _≤_}
 use mathlib.Core.Path.{_≡_}
+use mathlib.Core.Bool.{Bool}
 use mathlib.Core.List.{List}
-use lib.ListN.{length, drop}
+use lib.ListN.{length, take, drop}
+use Rattle.rules.specs.Bytes.{sameBytes}
 use Rattle.lines.specs.Fields.{firstPart}
 
 -- Where the first separator from a place on stands, or where the text ends.
@@ -14,3 +16,7 @@ pub record Skipped (separator : ℕ) (text : List ℕ) (from count at : ℕ) : T
   pub within : at ≤ length text
   pub same-end : endFrom separator text from ≡ endFrom separator text at
   pub stops : count ≡ 1 → at ≡ endFrom separator text at
+
+-- Whether a text begins with these bytes.
+unfoldable pub begun : List ℕ → List ℕ → Bool
+begun front text = sameBytes (take (length front) text) front

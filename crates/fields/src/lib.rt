@@ -1,11 +1,10 @@
-// The splitter of a line's fields and of an address's parts, and the first word of a line.
+// The splitter of a line's fields and of an address's parts, and how a line begins.
 ghost use Prim.Native.Nat.{suc, _+_, _≤_, _<_};
 ghost use mathlib.Core.Path.{_≡_};
 ghost use lib.Dec.{ltb};
 ghost use lib.ListN.{length, take, drop};
-ghost use Rattle.rules.specs.Bytes.{sameBytes};
 ghost use Rattle.lines.specs.Fields.{firstPart};
-ghost use Rattle.fields.specs.Places.{endFrom, Skipped};
+ghost use Rattle.fields.specs.Places.{endFrom, Skipped, begun};
 
 // Whether one of so many bytes is the separator. The loop looks at all of them: so many are compared at once.
 fn has(text: &[u8], at: usize, count: usize, separator: u8) -> bool
@@ -46,13 +45,6 @@ pub fn part(text: &[u8], separator: u8) -> &[u8]
     &text[..end]
 }
 
-// Whether a field is this word.
-pub fn is_word(field: &[u8], word: &[u8]) -> bool
-    ensures { λ r. ⌜ r ≡ sameBytes (now (field .entry)) (now (word .entry)) ⌝ }
-{
-    check::same(field, word)
-}
-
 // What stands behind a place of a text: nothing behind its last byte.
 pub fn behind(text: &[u8], place: usize) -> &[u8]
     ensures { λ r. ⌜ now r ≡ drop (suc place) (now (text .entry)) ⌝ }
@@ -73,4 +65,11 @@ pub fn start(text: &[u8], count: usize) -> &[u8]
     } else {
         text
     }
+}
+
+// Whether a text begins with these bytes.
+pub fn begins(text: &[u8], front: &[u8]) -> bool
+    ensures { λ r. ⌜ r ≡ begun (now (front .entry)) (now (text .entry)) ⌝ }
+{
+    check::same(start(text, front.len()), front)
 }
