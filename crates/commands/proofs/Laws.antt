@@ -1,11 +1,14 @@
 -- How the parts of a line make up its call.
 use Prim.Native.Nat.{ℕ, suc, _<_, _≤_}
 use mathlib.Core.Path.{_≡_, refl, ap, sym, subst, _∙_}
-use mathlib.Core.Bool.{Bool, true, false, cond, and-false}
-use mathlib.Core.List.{List, [], _∷_}
+use mathlib.Core.Bool.{Bool, true, false, cond, and-false, true≢false}
+use mathlib.Core.List.{List, [], _∷_, _++_, append-assoc}
 use mathlib.Core.Option.{Option, none, some}
+use mathlib.Core.Logic.{⊎-elim}
+use native.Mathlib.Nat.{eq-or-lt-of-le}
+use native.Mathlib.Numerals.{add-one}
 use native.Mathlib.Omega.{arith}
-use lib.ListN.{length, drop}
+use lib.ListN.{length, drop, length-append}
 use borrow.Author.Tests.{le-leb, lt-leb}
 use Rattle.rules.specs.Bytes.{sameBytes}
 use Rattle.rules.proofs.BytesLaws.{same-equal}
@@ -14,8 +17,10 @@ use Rattle.machine.specs.Calls.{Call}
 use Rattle.lines.specs.Fields.{tab, parts, firstPart}
 use Rattle.lines.specs.Numbers.{number, largest, largestDraw, address}
 use Rattle.lines.specs.Forms.{longestLine, callOf, callIn, time, freshWord, askWord, tickWord, packetWord, dropWord}
-use Rattle.lines.proofs.FieldLaws.{first-length, one-part, more-parts}
+use Rattle.lines.proofs.FieldLaws.{first-length, one-part, more-parts, separated}
 use Rattle.lines.proofs.ReadingLaws.{then-none}
+use Rattle.fields.specs.Places.{begun}
+use Rattle.fields.proofs.Laws.{begun-is, is-begun}
 use Rattle.addresses.specs.Parts.{addressOf}
 use Rattle.addresses.specs.declared.AddressReading.{AddressReading}
 use Rattle.addresses.specs.declared.AddressReading.the-variants as AddressReading
@@ -86,40 +91,40 @@ module _ (rest next : List ℕ) (cut : next ≡ firstPart tab rest) where
     pub ask-alone-third : (first second : List ℕ) → Always Command.Malformed (ifCount 5 askCall (askWord ∷ first ∷ second ∷ parts tab rest))
     ask-alone-third first second = none-made _ (too-few 5 askCall (askWord ∷ first ∷ second ∷ []) rest next cut all (omega arith))
 
--- A line whose first field is a form's word makes that form's call.
-pub fresh-form : (fields : List (List ℕ)) → callIn (freshWord ∷ fields) ≡ ifCount 2 freshCall (freshWord ∷ fields)
-unfolding callIn
-fresh-form fields = refl
+-- A line that is a form's word, a tab and more makes that form's call.
+fresh-form : (rest : List ℕ) → callIn (parts tab (freshWord ++ (tab ∷ rest))) ≡ ifCount 2 freshCall (freshWord ∷ parts tab rest)
+unfolding callIn parts
+fresh-form rest = refl
 
-pub ask-form : (fields : List (List ℕ)) → callIn (askWord ∷ fields) ≡ ifCount 5 askCall (askWord ∷ fields)
-unfolding callIn
-ask-form fields = refl
+ask-form : (rest : List ℕ) → callIn (parts tab (askWord ++ (tab ∷ rest))) ≡ ifCount 5 askCall (askWord ∷ parts tab rest)
+unfolding callIn parts
+ask-form rest = refl
 
-pub tick-form : (fields : List (List ℕ)) → callIn (tickWord ∷ fields) ≡ ifCount 3 tickCall (tickWord ∷ fields)
-unfolding callIn
-tick-form fields = refl
+tick-form : (rest : List ℕ) → callIn (parts tab (tickWord ++ (tab ∷ rest))) ≡ ifCount 3 tickCall (tickWord ∷ parts tab rest)
+unfolding callIn parts
+tick-form rest = refl
 
-pub packet-form : (fields : List (List ℕ)) → callIn (packetWord ∷ fields) ≡ ifCount 3 packetCall (packetWord ∷ fields)
-unfolding callIn
-packet-form fields = refl
+packet-form : (rest : List ℕ) → callIn (parts tab (packetWord ++ (tab ∷ rest))) ≡ ifCount 3 packetCall (packetWord ∷ parts tab rest)
+unfolding callIn parts
+packet-form rest = refl
 
-pub drop-form : (fields : List (List ℕ)) → callIn (dropWord ∷ fields) ≡ ifCount 3 dropCall (dropWord ∷ fields)
-unfolding callIn
-drop-form fields = refl
+drop-form : (rest : List ℕ) → callIn (parts tab (dropWord ++ (tab ∷ rest))) ≡ ifCount 3 dropCall (dropWord ∷ parts tab rest)
+unfolding callIn parts
+drop-form rest = refl
 
 -- Any other word makes none.
-pub no-form : (word : List ℕ) (fields : List (List ℕ))
-    → sameBytes word freshWord ≡ false
-    → sameBytes word askWord ≡ false
+no-form : (word : List ℕ) (fields : List (List ℕ))
     → sameBytes word tickWord ≡ false
     → sameBytes word packetWord ≡ false
+    → sameBytes word askWord ≡ false
     → sameBytes word dropWord ≡ false
+    → sameBytes word freshWord ≡ false
     → callIn (word ∷ fields) ≡ none
 unfolding callIn
 no-form word fields a b c d e = rw (a, b, c, d, e) refl
 
 -- One field alone makes none.
-pub no-fields : (word : List ℕ) → callIn (word ∷ []) ≡ none
+no-fields : (word : List ℕ) → callIn (word ∷ []) ≡ none
 unfolding callIn
 no-fields word =
     rw (
@@ -131,42 +136,34 @@ no-fields word =
     )
     refl
 
--- The first word of a line.
-module _ (word rest head : List ℕ) (command : Command) where
-  by-word : (is : List ℕ) (call : Option Call) (r : Bool) → r ≡ sameBytes word is → r ≡ true
-      → callIn (is ∷ parts tab rest) ≡ call → Makes command head call → Makes command head (callIn (word ∷ parts tab rest))
-  by-word is call r e t form =
-      subst (Makes command head) (sym (ap (λ w. callIn (w ∷ parts tab rest)) (same-equal word is (sym e ∙ t)) ∙ form))
+-- A word and the tab behind it.
+abbrev withTab : List ℕ → List ℕ
+withTab word = word ++ (tab ∷ [])
 
-  pub fresh-line : (r : Bool) → r ≡ sameBytes word freshWord → r ≡ true → Always command (ifCount 2 freshCall (freshWord ∷ parts tab rest))
-      → Makes command head (callIn (word ∷ parts tab rest))
-  fresh-line r e t h = by-word freshWord _ r e t (fresh-form (parts tab rest)) (h .always head)
+module _ (word line : List ℕ) where
+  -- A line that begins with them is the word, a tab and what is behind it.
+  begun-parts : begun (withTab word) line ≡ true → line ≡ word ++ (tab ∷ drop (suc (length word)) line)
+  begun-parts e =
+      begun-is (withTab word) line e
+      ∙ ap (λ n. withTab word ++ drop n line) (length-append word (tab ∷ []) ∙ add-one (length word))
+      ∙ append-assoc word (tab ∷ []) (drop (suc (length word)) line)
 
-  pub ask-line : (r : Bool) → r ≡ sameBytes word askWord → r ≡ true → Always command (ifCount 5 askCall (askWord ∷ parts tab rest))
-      → Makes command head (callIn (word ∷ parts tab rest))
-  ask-line r e t h = by-word askWord _ r e t (ask-form (parts tab rest)) (h .always head)
+  -- The first part of any other line is not the word, unless it is all of the line.
+  other-word : length (firstPart tab line) < length line → begun (withTab word) line ≡ false → sameBytes (firstPart tab line) word ≡ false
+  other-word more e = cases (sameBytes (firstPart tab line) word) refl
+    where
+      rest : List ℕ
+      rest = drop (suc (length (firstPart tab line))) line
 
-  pub tick-line : (r : Bool) → r ≡ sameBytes word tickWord → r ≡ true → Always command (ifCount 3 tickCall (tickWord ∷ parts tab rest))
-      → Makes command head (callIn (word ∷ parts tab rest))
-  tick-line r e t h = by-word tickWord _ r e t (tick-form (parts tab rest)) (h .always head)
+      whole : sameBytes (firstPart tab line) word ≡ true → line ≡ withTab word ++ rest
+      whole t =
+          separated tab line more
+          ∙ ap (λ p. p ++ (tab ∷ rest)) (same-equal (firstPart tab line) word t)
+          ∙ sym (append-assoc word (tab ∷ []) rest)
 
-  pub packet-line : (r : Bool) → r ≡ sameBytes word packetWord → r ≡ true → Makes command head (ifCount 3 packetCall (packetWord ∷ parts tab rest))
-      → Makes command head (callIn (word ∷ parts tab rest))
-  packet-line r e t h = by-word packetWord _ r e t (packet-form (parts tab rest)) h
-
-  pub drop-line : (r : Bool) → r ≡ sameBytes word dropWord → r ≡ true → Always command (ifCount 3 dropCall (dropWord ∷ parts tab rest))
-      → Makes command head (callIn (word ∷ parts tab rest))
-  drop-line r e t h = by-word dropWord _ r e t (drop-form (parts tab rest)) (h .always head)
-
-pub no-line : (word rest head : List ℕ) (a b c d e : Bool)
-    → a ≡ sameBytes word freshWord → a ≡ false
-    → b ≡ sameBytes word askWord → b ≡ false
-    → c ≡ sameBytes word tickWord → c ≡ false
-    → d ≡ sameBytes word packetWord → d ≡ false
-    → e ≡ sameBytes word dropWord → e ≡ false
-    → Makes Command.Malformed head (callIn (word ∷ parts tab rest))
-no-line word rest head a b c d e a₁ a₂ b₁ b₂ c₁ c₂ d₁ d₂ e₁ e₂ =
-    none-made _ (no-form word (parts tab rest) (sym a₁ ∙ a₂) (sym b₁ ∙ b₂) (sym c₁ ∙ c₂) (sym d₁ ∙ d₂) (sym e₁ ∙ e₂)) .always head
+      cases : (t : Bool) → sameBytes (firstPart tab line) word ≡ t → sameBytes (firstPart tab line) word ≡ false
+      cases true t = absurd (true≢false (sym (ap (begun (withTab word)) (whole t) ∙ is-begun (withTab word) rest) ∙ e))
+      cases false t = t
 
 -- A whole line.
 module _ (line head : List ℕ) where
@@ -174,25 +171,62 @@ module _ (line head : List ℕ) where
   unfolding callOf
   too-long h = record { makes = rw (lt-leb (length line) longestLine h) }
 
-  module _ (word : List ℕ) (short : length line ≤ longestLine) (cut : word ≡ firstPart tab line) where
+  module _ (short : length line ≤ longestLine) where
     short-line : callOf line ≡ callIn (parts tab line)
     unfolding callOf
     short-line = ap (λ t. cond t (callIn (parts tab line)) none) (le-leb (length line) longestLine short)
 
-    pub word-split : (command : Command) (rest : List ℕ) → length word < length line → rest ≡ drop (suc (length word)) line
-        → Makes command head (callIn (word ∷ parts tab rest)) → Makes command head (callOf line)
-    word-split command rest more behind =
-        subst (Makes command head)
-        (ap (λ l. callIn (word ∷ parts tab l)) behind
-        ∙ ap (λ p. callIn (p ∷ parts tab (drop (suc (length p)) line))) cut
-        ∙ ap callIn (sym (more-parts tab line (omega (arith, more, ap length cut))))
-        ∙ sym short-line)
+    module _ (command : Command) (rest : List ℕ) (r : Bool) where
+      by-word : (word : List ℕ) (call : List ℕ → Option Call) → ((l : List ℕ) → callIn (parts tab (word ++ (tab ∷ l))) ≡ call l)
+          → r ≡ begun (withTab word) line → r ≡ true → rest ≡ drop (suc (length word)) line
+          → Makes command head (call rest) → Makes command head (callOf line)
+      by-word word call form e t behind =
+          subst (Makes command head)
+          (sym
+          (short-line
+          ∙ ap (λ l. callIn (parts tab l)) (begun-parts word line (sym e ∙ t))
+          ∙ form (drop (suc (length word)) line)
+          ∙ ap call (sym behind)))
 
-    pub word-alone : length line ≤ length word → Makes Command.Malformed head (callOf line)
-    word-alone all =
-        none-made (callOf line)
-        (short-line
-        ∙ ap callIn (one-part tab line (omega (arith, all, ap length cut, first-length tab line)))
-        ∙ no-fields line)
-        .always
-        head
+      pub tick-line : r ≡ begun (withTab tickWord) line → r ≡ true → rest ≡ drop (suc (length tickWord)) line
+          → Always command (ifCount 3 tickCall (tickWord ∷ parts tab rest)) → Makes command head (callOf line)
+      tick-line e t behind h = by-word tickWord _ tick-form e t behind (h .always head)
+
+      pub packet-line : r ≡ begun (withTab packetWord) line → r ≡ true → rest ≡ drop (suc (length packetWord)) line
+          → Makes command head (ifCount 3 packetCall (packetWord ∷ parts tab rest)) → Makes command head (callOf line)
+      packet-line e t behind h = by-word packetWord _ packet-form e t behind h
+
+      pub ask-line : r ≡ begun (withTab askWord) line → r ≡ true → rest ≡ drop (suc (length askWord)) line
+          → Always command (ifCount 5 askCall (askWord ∷ parts tab rest)) → Makes command head (callOf line)
+      ask-line e t behind h = by-word askWord _ ask-form e t behind (h .always head)
+
+      pub drop-line : r ≡ begun (withTab dropWord) line → r ≡ true → rest ≡ drop (suc (length dropWord)) line
+          → Always command (ifCount 3 dropCall (dropWord ∷ parts tab rest)) → Makes command head (callOf line)
+      drop-line e t behind h = by-word dropWord _ drop-form e t behind (h .always head)
+
+      pub fresh-line : r ≡ begun (withTab freshWord) line → r ≡ true → rest ≡ drop (suc (length freshWord)) line
+          → Always command (ifCount 2 freshCall (freshWord ∷ parts tab rest)) → Makes command head (callOf line)
+      fresh-line e t behind h = by-word freshWord _ fresh-form e t behind (h .always head)
+
+    pub no-line : (a b c d e : Bool)
+        → a ≡ begun (withTab tickWord) line → a ≡ false
+        → b ≡ begun (withTab packetWord) line → b ≡ false
+        → c ≡ begun (withTab askWord) line → c ≡ false
+        → d ≡ begun (withTab dropWord) line → d ≡ false
+        → e ≡ begun (withTab freshWord) line → e ≡ false
+        → Makes Command.Malformed head (callOf line)
+    no-line a b c d e a₁ a₂ b₁ b₂ c₁ c₂ d₁ d₂ e₁ e₂ =
+        none-made (callOf line) (short-line ∙ ⊎-elim alone more (eq-or-lt-of-le (first-length tab line))) .always head
+      where
+        alone : length (firstPart tab line) ≡ length line → callIn (parts tab line) ≡ none
+        alone h = ap callIn (one-part tab line h) ∙ no-fields line
+
+        more : length (firstPart tab line) < length line → callIn (parts tab line) ≡ none
+        more h =
+            ap callIn (more-parts tab line h)
+            ∙ no-form (firstPart tab line) _
+            (other-word tickWord line h (sym a₁ ∙ a₂))
+            (other-word packetWord line h (sym b₁ ∙ b₂))
+            (other-word askWord line h (sym c₁ ∙ c₂))
+            (other-word dropWord line h (sym d₁ ∙ d₂))
+            (other-word freshWord line h (sym e₁ ∙ e₂))

@@ -10,7 +10,7 @@ use numerals::Reading;
 use rules::Time;
 ghost use mathlib.Core.List.{[], _∷_};
 ghost use Rattle.lines.specs.Fields.{tab, parts};
-ghost use Rattle.lines.specs.Forms.{askWord, callIn, callOf};
+ghost use Rattle.lines.specs.Forms.{askWord, callOf};
 ghost use Rattle.forms.specs.Parts.{Makes, Always, ifCount, askCall};
 
 // `ask` time address policy draw: all four fields, then one split off the line after the other.
@@ -73,36 +73,23 @@ fn ask(rest: &[u8]) -> Command
     }
 }
 
-// The command of a word and what stands behind its tab.
-fn arguments(word: &[u8], rest: &[u8], head: &mut [u8; 28]) -> Command
-    ensures { λ r. ⌜ Makes r (now (head .exit)) (callIn (now (word .entry) ∷ parts tab (now (rest .entry)))) ⌝ }
-{
-    if fields::is_word(word, b"fresh") {
-        forms::fresh(rest)
-    } else if fields::is_word(word, b"ask") {
-        ask(rest)
-    } else if fields::is_word(word, b"tick") {
-        forms::tick(rest)
-    } else if fields::is_word(word, b"packet") {
-        forms::packet(rest, head)
-    } else if fields::is_word(word, b"drop") {
-        forms::drop(rest)
-    } else {
-        Command::Malformed
-    }
-}
-
-// The command of a line. The first bytes of a packet go to the start of `head`.
+// The command of a line: of its first word, the most frequent first, and what stands behind the word's tab. The first bytes of a
+// packet go to the start of `head`.
 pub fn parse(line: &[u8], head: &mut [u8; 28]) -> Command
     ensures { λ r. ⌜ Makes r (now (head .exit)) (callOf (now (line .entry))) ⌝ }
 {
     if LONGEST_LINE < line.len() {
-        return Command::Malformed;
-    }
-    let word = fields::part(line, TAB);
-    let end = word.len();
-    if end < line.len() {
-        arguments(word, fields::behind(line, end), head)
+        Command::Malformed
+    } else if fields::begins(line, b"tick\t") {
+        forms::tick(fields::behind(line, 4))
+    } else if fields::begins(line, b"packet\t") {
+        forms::packet(fields::behind(line, 6), head)
+    } else if fields::begins(line, b"ask\t") {
+        ask(fields::behind(line, 3))
+    } else if fields::begins(line, b"drop\t") {
+        forms::drop(fields::behind(line, 4))
+    } else if fields::begins(line, b"fresh\t") {
+        forms::fresh(fields::behind(line, 5))
     } else {
         Command::Malformed
     }

@@ -1,16 +1,14 @@
 -- `fields::part`: the text up to the place that is found.
 use borrow.Author.Needs.{needs}
-use native.Mathlib.Omega.{arith}
-use Rattle.fields.proofs.Laws.{found-part, found-length}
+use Rattle.fields.proofs.Laws.{found-part, part-length}
 use Rattle.fields.proofs.part.Statement.{statement}
 use Rattle.fields.proofs.part.Tie as tie
 
 slice-aggregate-result : tie.Need-slice-aggregate-result
-slice-aggregate-result c = found-length _ _ (omega arith)
+slice-aggregate-result c = search part-length
 
 returns : tie.Need-returns
 returns c = search (found-part, needs)
 
 pub part-spec : {M : Type 1} → statement M
-part-spec =
-    tie.close (tie.spec (λ c κs. search needs) (λ c κs. search needs) (λ c κs. search needs) slice-aggregate-result returns)
+part-spec = tie.close (tie.spec (λ c κs. search needs) slice-aggregate-result returns)
