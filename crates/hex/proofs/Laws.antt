@@ -111,18 +111,18 @@ module _ (text head : List ℕ) (i : ℕ) (inv : take i head ≡ take i (pairs t
       ∙ take-all i (pairs text) (omega (arith, length-pairs text))
       ∙ sym (take-all 28 (pairs text) (omega (arith, length-pairs text)))
 
-module _ (text : List ℕ) (start i : ℕ) (long : (start + 16) * 2 ≤ length text) (h : i < 16) where
+module _ (text : List ℕ) (start i : ℕ) (long : (start + 16) * 2 ≤ length text) where
   pub sixteen-again : (list : List ℕ) → take i list ≡ take i (drop start (pairs text)) →
-      (b : ℕ) → b ≡ getD (pairs text) (start + i) 0 → length list ≡ 16 →
+      (b : ℕ) → b ≡ getD (pairs text) (start + i) 0 → length list ≡ 16 → i < 16 →
       take (i + 1) (set list i b) ≡ take (i + 1) (drop start (pairs text))
-  sixteen-again list inv b is k =
+  sixteen-again list inv b is k h =
       kept list (drop start (pairs text)) i b inv (is ∙ sym (getD-drop start (pairs text) i 0)) (omega arith)
       (omega (arith, length-drop start (pairs text), length-pairs text))
 
   pub head-again : (head : List ℕ) → take (start + i) head ≡ take (start + i) (pairs text) → (list : List ℕ) →
-      list ≡ take 16 (drop start (pairs text)) → length head ≡ 28 → start ≤ 12 →
+      list ≡ take 16 (drop start (pairs text)) → length head ≡ 28 → start ≤ 12 → i < 16 →
       take (start + (i + 1)) (set head (start + i) (getD list i 0)) ≡ take (start + (i + 1)) (pairs text)
-  head-again head inv list are k first =
+  head-again head inv list are k first h =
       kept-same (set head (start + i) (getD list i 0)) (pairs text) (start + i + 1) (start + (i + 1))
       (kept head (pairs text) (start + i) (getD list i 0) inv
       (ap (λ l. getD l i 0) are ∙ getD-take 16 (drop start (pairs text)) i 0 h ∙ getD-drop start (pairs text) i 0)
@@ -142,9 +142,8 @@ pub sixteen-done : (list source : List ℕ) (i : ℕ) → take i list ≡ take i
 sixteen-done list source i inv k h h' =
     let is : i ≡ 16 = omega arith in sym (take-all i list (omega arith)) ∙ inv ∙ ap (λ n. take n source) is
 
-pub shorter : (head source : List ℕ) → take 16 head ≡ take 16 source → take 12 head ≡ take 12 source
-shorter head source e =
-    sym (take-take 12 16 head (omega arith)) ∙ ap (take 12) e ∙ take-take 12 16 source (omega arith)
+pub shorter : (head source : List ℕ) (n : ℕ) → take 16 head ≡ take 16 source → n ≤ 16 → take n head ≡ take n source
+shorter head source n e h = sym (take-take n 16 head h) ∙ ap (take n) e ∙ take-take n 16 source h
 
 -- The loop over bytes that makes up their number.
 number-more : (bytes : List ℕ) (b : ℕ) → numberOf (bytes ++ (b ∷ [])) ≡ numberOf bytes * 256 + b

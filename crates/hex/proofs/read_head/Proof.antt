@@ -5,7 +5,7 @@ use Rattle.hex.proofs.read_head.Statement.{statement}
 use Rattle.hex.proofs.read_head.Tie as tie
 
 read-sixteen-requires-2 : tie.Need-read-sixteen-requires-2
-read-sixteen-requires-2 c κs = (search needs, (search needs, search shorter))
+read-sixteen-requires-2 c κs = (search needs, (search needs, search (shorter, needs)))
 
 pub read-head-spec : {M : Type 1} → statement M
 read-head-spec =

@@ -1,6 +1,7 @@
 -- `hex::read_sixteen`: the loop has kept so many bytes more.
 use Prim.Native.Nat.{_+_, _-_, _≤_}
 use mathlib.Core.Path.{_≡_}
+use native.Mathlib.Omega.{arith}
 use lib.ListN.{length, take}
 use borrow.Author.Needs.{needs}
 use Rattle.hex.specs.Parts.{pairs}
@@ -19,7 +20,13 @@ loop-holds : tie.Need-loop-holds Inv-loop μ-loop
 loop-holds c = search (head-begins, needs)
 
 loop-again : tie.Need-loop-again Inv-loop μ-loop
-loop-again c = search (head-again, needs)
+loop-again c = (
+  search needs,
+  search needs,
+  head-again _ _ _ (c .before .before .before .before .before .pre .0) _ (c .before .loop .inv .2) _
+      (c .before .before .sixteen .ensures) (c .before .loop .inv .1) (c .before .before .before .before .before .pre .1 .0 .1)
+      (omega arith),
+)
 
 returns : tie.Need-returns Inv-loop μ-loop
 returns c = search (head-done, needs)

@@ -1,6 +1,7 @@
 -- `hex::sixteen`: the loop has read so many bytes.
 use Prim.Native.Nat.{_-_, _≤_}
 use mathlib.Core.Path.{_≡_}
+use native.Mathlib.Omega.{arith}
 use lib.ListN.{length, take, drop}
 use borrow.Author.Needs.{needs}
 use Rattle.hex.specs.Parts.{pairs}
@@ -19,7 +20,12 @@ loop-holds : tie.Need-loop-holds Inv-loop μ-loop
 loop-holds c = search needs
 
 loop-again : tie.Need-loop-again Inv-loop μ-loop
-loop-again c = search (sixteen-again, needs)
+loop-again c = (
+  search needs,
+  search needs,
+  sixteen-again _ _ _ (c .before .before .before .before .pre) _ (c .before .before .loop .inv .2) _
+      (c .byte-at .ensures) (c .before .before .loop .inv .1) (omega arith),
+)
 
 returns : tie.Need-returns Inv-loop μ-loop
 returns c = search (sixteen-done, needs)
