@@ -1,30 +1,42 @@
 -- `hexBytes` of the crate lines, digit by digit and byte by byte: which texts have bytes, and which bytes these are.
-use Prim.Native.Nat.{ℕ, zero, suc, _+_, _-_, _*_, _/_, _%_, _<_}
-use mathlib.Core.Path.{_≡_, refl}
-use mathlib.Core.List.{List, [], _∷_}
+use Prim.Native.Nat.{ℕ, zero, suc, _+_, _-_, _*_, _/_, _%_, _≤_, _<_}
+use mathlib.Core.Path.{_≡_, refl, ap}
+use mathlib.Core.List.{List, [], _∷_, _++_}
 use mathlib.Core.Bool.{Bool, true, false, cond, _&&_, _||_, and-false, and-assoc}
-use mathlib.Core.Option.{Option, some, Option·getD}
+use mathlib.Core.Option.{Option, some}
 use native.Mathlib.Omega.{arith}
 use native.Mathlib.Nat.{suc-add}
-use native.Mathlib.Numerals.{add-one}
-use lib.ListN.{length, getD, drop}
-use lib.Seq.{drop-cons}
-use lib.Dec.{eqb}
+use lib.ListN.{length, getD}
+use lib.Dec.{eqb, leb}
+use borrow.Author.Tests.{leb-true, le-leb, lt-leb}
+use Rattle.rules.proofs.BytesLaws.{and-both}
 use Rattle.lines.specs.Fields.{only, _then_}
 use Rattle.lines.specs.Numbers.{isDigit, hexDigit, hexBytes}
 use Rattle.hex.specs.Parts.{isLetter, isHex, areHex, valueOf, pairs}
 
 -- A digit is what is hex, with its value.
-digit-only : (b : ℕ) → hexDigit b ≡ only (isHex b) (valueOf b)
+digit-value : (b : ℕ) → isDigit b ≡ true → b - 48 ≡ valueOf b
 unfolding valueOf
-digit-only b = go (isDigit b) (isLetter b) (b - 48) (b - 87)
+digit-value b e =
+    let least : 48 ≤ b = leb-true 48 b (and-both (leb 48 b) (leb b 57) e .0) in
+    let most : b ≤ 57 = leb-true b 57 (and-both (leb 48 b) (leb b 57) e .1) in
+    rw (le-leb b 57 most) (omega (arith, least, most))
+
+letter-value : (b : ℕ) → isLetter b ≡ true → b - 87 ≡ valueOf b
+unfolding valueOf
+letter-value b e =
+    let least : 97 ≤ b = leb-true 97 b (and-both (leb 97 b) (leb b 102) e .0) in
+    let most : b ≤ 102 = leb-true b 102 (and-both (leb 97 b) (leb b 102) e .1) in
+    rw (lt-leb b 57 (omega (arith, least))) (omega (arith, least, most))
+
+digit-only : (b : ℕ) → hexDigit b ≡ only (isHex b) (valueOf b)
+digit-only b = cases (isDigit b) refl (isLetter b) refl
   where
-    go : (digit letter : Bool) (x y : ℕ) →
-        cond digit (some x) (only letter y)
-        ≡ only (digit || letter) (Option·getD (cond digit (some x) (only letter y)) 0)
-    go true letter x y = refl
-    go false true x y = refl
-    go false false x y = refl
+    cases : (digit : Bool) → isDigit b ≡ digit → (letter : Bool) → isLetter b ≡ letter →
+        cond digit (some (b - 48)) (only letter (b - 87)) ≡ only (digit || letter) (valueOf b)
+    cases true d letter l = ap some (digit-value b d)
+    cases false d true l = ap some (letter-value b l)
+    cases false d false l = refl
 
 -- Two digits and what follows them.
 pair-only : {first second : Option ℕ} {rest : Option (List ℕ)} (high low more : Bool) (h l : ℕ) (bytes : List ℕ) →
@@ -49,11 +61,11 @@ scanned (high ∷ low ∷ text) =
     (pair-only (isHex high) (isHex low) (areHex text && eqb (length text % 2) 0) (valueOf high) (valueOf low) (pairs text)
     (digit-only high) (digit-only low) (scanned text))
 
--- From one digit to the next.
-pub hex-next : (text : List ℕ) (i : ℕ) → i < length text →
-    areHex (drop i text) ≡ (isHex (getD text i 0) && areHex (drop (i + 1) text))
+-- Two runs of digits, one behind the other.
+pub hex-both : (first second : List ℕ) → areHex (first ++ second) ≡ (areHex first && areHex second)
 unfolding areHex
-hex-next text i h = rw (drop-cons text i 0, add-one)
+hex-both [] second = refl
+hex-both (b ∷ first) second = rw (hex-both first second, and-assoc)
 
 -- How many bytes there are, and each of them.
 pub length-pairs : (text : List ℕ) → length (pairs text) ≡ length text / 2

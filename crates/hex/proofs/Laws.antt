@@ -1,78 +1,149 @@
 -- How what the inner functions promise makes up the definitions of the crate lines: a law for each way that a function ends.
 use Prim.Native.Nat.{ℕ, _+_, _-_, _*_, _/_, _%_, _^_, min, _≤_, _<_}
-use mathlib.Core.Path.{_≡_, refl, sym, ap, _∙_}
+use mathlib.Core.Path.{_≡_, refl, sym, ap, ap₂, subst, _∙_}
 use mathlib.Core.List.{List, [], _∷_, _++_}
-use mathlib.Core.Bool.{Bool, true, false, cond, _&&_, and-true, and-false, and-assoc}
+use mathlib.Core.Bool.{Bool, true, false, cond, _&&_, _||_, and-true, and-false}
 use mathlib.Core.Option.{none, some, Option·map}
 use native.Mathlib.Nat.{mul-assoc, pow-suc, pow-le-pow-right, lt-of-lt-of-le}
 use native.Mathlib.Numerals.{add-one}
 use native.Mathlib.Omega.{arith}
-use lib.ListN.{length, getD, take, drop, set, length-append, length-take, drop-of-length-le}
-use lib.Seq.{take-suc, take-suc-set, take-take, take-all}
+use lib.ListN.{length, getD, take, drop, set, length-append, length-drop, take-append-drop}
+use lib.Seq.{take-suc, take-suc-set, take-take, take-add, take-all, take-length, getD-take, getD-drop}
 use lib.Arith.{digits-lt}
-use lib.Dec.{leb}
-use borrow.Author.Tests.{leb-true, le-leb, lt-leb, eq-eqb, ne-eqb}
+use lib.Dec.{leb, eqb}
+use borrow.Author.Tests.{leb-true, eqb-true, eqb-false, le-leb, lt-leb, eq-eqb, ne-eqb}
 use Rattle.rules.specs.Bytes.{numberOf}
-use Rattle.rules.proofs.BytesLaws.{and-both}
 use Rattle.lines.specs.Numbers.{isDigit, hexBytes, bytes, hardware}
-use Rattle.hex.specs.Parts.{isLetter, isHex, areHex, valueOf, pairs}
-use Rattle.hex.proofs.HexScan.{scanned, hex-next, length-pairs}
+use Rattle.hex.specs.Parts.{isLetter, isHex, areHex, pairs}
+use Rattle.hex.proofs.HexScan.{scanned, hex-both, length-pairs}
 
--- A digit's value. `digit` and `letter` are what the tests of the byte answered.
-module _ (b : ℕ) (digit : Bool) (told : digit ≡ isDigit b) where
-  pub digit-least : digit ≡ true → 48 ≤ b
-  digit-least e = leb-true 48 b (and-both (leb 48 b) (leb b 57) (sym told ∙ e) .0)
+-- `beyond`: `above` is the distance from the start of the range, and wraps.
+module _ (b first last above : ℕ) (byte : last < 256) (ordered : first ≤ last) (fits : above < 256) (told : (above + first) % 256 ≡ b) where
+  pub in-range : above ≤ last - first → true ≡ (leb first b && leb b last)
+  in-range h = rw (le-leb first b (omega arith), le-leb b last (omega arith))
 
-  pub digit-value : digit ≡ true → (b - 48 ≡ valueOf b) × (b - 48 < 16)
-  unfolding valueOf
-  digit-value e =
-      (rw (sym told ∙ e), omega (arith, leb-true b 57 (and-both (leb 48 b) (leb b 57) (sym told ∙ e) .1)))
+  pub out-of-range : last - first < above → eqb (above - (last - first)) 0 ≡ (leb first b && leb b last)
+  out-of-range h = ne-eqb (above - (last - first)) 0 (λ z. omega arith) ∙ cases (leb first b) refl
+    where
+      cases : (t : Bool) → leb first b ≡ t → false ≡ (t && leb b last)
+      cases true e = sym (lt-leb b last (omega (arith, leb-true first b e)))
+      cases false e = refl
 
-  module _ (letter : Bool) (told' : letter ≡ isLetter b) where
-    pub letter-least : letter ≡ true → 97 ≤ b
-    letter-least e = leb-true 97 b (and-both (leb 97 b) (leb b 102) (sym told' ∙ e) .0)
+-- `is_hex`: the smaller of two distances is 0 if one of them is.
+smaller-zero : (x y : ℕ) → eqb (min x y) 0 ≡ (eqb x 0 || eqb y 0)
+smaller-zero x y = cases (eqb x 0) refl (eqb y 0) refl
+  where
+    cases : (t : Bool) → eqb x 0 ≡ t → (u : Bool) → eqb y 0 ≡ u → eqb (min x y) 0 ≡ (t || u)
+    cases true e u f = eq-eqb (min x y) 0 (omega (arith, eqb-true x 0 e))
+    cases false e true f = eq-eqb (min x y) 0 (omega (arith, eqb-true y 0 f))
+    cases false e false f = ne-eqb (min x y) 0 (λ z. omega (arith, eqb-false x 0 e, eqb-false y 0 f))
 
-    pub letter-value : digit ≡ false → letter ≡ true → (b - 97 + 10 ≡ valueOf b) × (b - 97 + 10 < 16)
-    unfolding valueOf
-    letter-value d e =
-        let least : 97 ≤ b = letter-least e in (
-          rw (sym told ∙ d, sym told' ∙ e) (omega arith),
-          omega (arith, leb-true b 102 (and-both (leb 97 b) (leb b 102) (sym told' ∙ e) .1)),
-        )
+pub hex-told : (b digit letter r : ℕ) → eqb digit 0 ≡ isDigit b → eqb letter 0 ≡ isLetter b → r ≡ min digit letter →
+    eqb r 0 ≡ isHex b
+hex-told b digit letter r d l is = rw (is, smaller-zero, d, l)
 
-    pub other-value : digit ≡ false → letter ≡ false → (0 ≡ valueOf b) × (0 < 16)
-    unfolding valueOf
-    other-value d e = (rw (sym told ∙ d, sym told' ∙ e), omega arith)
-
--- The loop over digits: `all` is whether all before `i` are hex.
-module _ (text : List ℕ) (all : Bool) (i : ℕ) (inv : areHex text ≡ (all && areHex (drop i text))) where
-  pub hex-again : (seen : Bool) → seen ≡ isHex (getD text i 0) → i < length text →
-      areHex text ≡ (all && seen && areHex (drop (i + 1) text))
-  hex-again seen told h = inv ∙ rw (hex-next text i h, ← told, and-assoc)
-
-  pub hex-done : length text ≤ i → all ≡ areHex text
+-- `run_is_hex`: `all` is whether the first `i` of them are hex.
+module _ (text : List ℕ) (start count i : ℕ) (all : Bool) (told : all ≡ areHex (take i (drop start text))) where
+  pub run-again : (seen : Bool) → seen ≡ isHex (getD text (start + i) 0) → start + count ≤ length text → i < count →
+      (all && seen) ≡ areHex (take (i + 1) (drop start text))
   unfolding areHex
-  hex-done h = sym (inv ∙ rw (drop-of-length-le text h, and-true))
-
--- The loop over bytes that keeps them, up to `end`: the first `i` in the buffer are those of the text.
-module _ (text head : List ℕ) (end i : ℕ) (told : end ≡ min 28 (length text / 2))
-    (inv : take i head ≡ take i (pairs text)) where
-  pub kept-again : (b : ℕ) → b ≡ getD (pairs text) i 0 → length head ≡ 28 → i < end →
-      take (i + 1) (set head i b) ≡ take (i + 1) (pairs text)
-  kept-again b is h k =
+  run-again seen is h k =
       rw (
         add-one,
-        take-suc-set head i b (omega arith),
-        take-suc (pairs text) i 0 (omega (arith, length-pairs text)),
-        inv,
-        is,
+        take-suc (drop start text) i 0 (omega (arith, length-drop start text)),
+        hex-both,
+        getD-drop start text i 0,
+        ← is,
+        ← told,
+        and-true,
       )
 
-  pub kept-done : i ≤ end → end ≤ i → take i head ≡ take 28 (pairs text)
-  kept-done h k =
+  pub run-done : i ≤ count → count ≤ i → all ≡ areHex (take count (drop start text))
+  run-done h k = let is : i ≡ count = omega arith in told ∙ ap (λ n. areHex (take n (drop start text))) is
+
+-- `runs_are_hex`: `all` is whether the digits before `at` are hex. The last run may begin before `at`.
+overlap : (first second : List ℕ) (n : ℕ) → (areHex (first ++ take n second) && areHex second) ≡ areHex (first ++ second)
+overlap first second n =
+    rw (hex-both first (take n second), hex-both first second)
+    (twice (areHex first) (areHex (take n second)) (areHex (drop n second)) (areHex second)
+    (ap areHex (sym (take-append-drop n second)) ∙ hex-both (take n second) (drop n second)))
+  where
+    twice : (a b c bc : Bool) → bc ≡ (b && c) → ((a && b) && bc) ≡ (a && bc)
+    twice true true c bc e = refl
+    twice true false c bc e = sym e
+    twice false b c bc e = refl
+
+module _ (text : List ℕ) (at : ℕ) (all : Bool) (told : all ≡ areHex (take at text)) (seen : Bool) where
+  pub runs-again : seen ≡ areHex (take 32 (drop at text)) → (all && seen) ≡ areHex (take (at + 32) text)
+  runs-again is = rw (take-add at 32 text, hex-both, told, is)
+
+  pub runs-done : 32 ≤ length text → length text - 32 ≤ at → seen ≡ areHex (take 32 (drop (length text - 32) text)) →
+      (all && seen) ≡ areHex text
+  runs-done long h is =
+      let last : ℕ = length text - 32 in
+      let more : at ≡ last + (at - last) = omega arith in
+      ap₂ _&&_
+      (told ∙ ap areHex (ap (λ n. take n text) more ∙ take-add last (at - last) text))
+      (is ∙ ap areHex (take-all 32 (drop last text) (omega (arith, length-drop last text))))
+      ∙ overlap (take last text) (drop last text) (at - last)
+      ∙ ap areHex (take-append-drop last text)
+
+-- `are_hex` of a text that is one run.
+pub run-whole : (text : List ℕ) → areHex (take (length text) (drop 0 text)) ≡ areHex text
+run-whole text = ap areHex (take-length text)
+
+-- The loops over bytes that keep them: the first `i` of a list are those of its source. In `read_sixteen` these are the first `start + i`.
+kept : (list source : List ℕ) (i b : ℕ) → take i list ≡ take i source → b ≡ getD source i 0 → i < length list → i < length source →
+    take (i + 1) (set list i b) ≡ take (i + 1) source
+kept list source i b inv is h k = rw (add-one, take-suc-set list i b h, take-suc source i 0 k, inv, is)
+
+kept-same : (list source : List ℕ) (m n : ℕ) → take m list ≡ take m source → m ≡ n → take n list ≡ take n source
+kept-same list source m n inv is = subst (λ k. take k list ≡ take k source) is inv
+
+module _ (text head : List ℕ) (i : ℕ) (inv : take i head ≡ take i (pairs text)) (short : length text < 56) where
+  pub short-again : (b : ℕ) → b ≡ getD (pairs text) i 0 → length head ≡ 28 → i < length text / 2 →
+      take (i + 1) (set head i b) ≡ take (i + 1) (pairs text)
+  short-again b is h k = kept head (pairs text) i b inv is (omega arith) (omega (arith, length-pairs text))
+
+  pub short-done : length text / 2 ≤ i → take i head ≡ take 28 (pairs text)
+  short-done h =
       inv
-      ∙ sym (take-take i 28 (pairs text) (omega arith))
-      ∙ take-all i (take 28 (pairs text)) (omega (arith, length-take 28 (pairs text), length-pairs text))
+      ∙ take-all i (pairs text) (omega (arith, length-pairs text))
+      ∙ sym (take-all 28 (pairs text) (omega (arith, length-pairs text)))
+
+module _ (text : List ℕ) (start i : ℕ) (long : (start + 16) * 2 ≤ length text) where
+  pub sixteen-again : (list : List ℕ) → take i list ≡ take i (drop start (pairs text)) →
+      (b : ℕ) → b ≡ getD (pairs text) (start + i) 0 → length list ≡ 16 → i < 16 →
+      take (i + 1) (set list i b) ≡ take (i + 1) (drop start (pairs text))
+  sixteen-again list inv b is k h =
+      kept list (drop start (pairs text)) i b inv (is ∙ sym (getD-drop start (pairs text) i 0)) (omega arith)
+      (omega (arith, length-drop start (pairs text), length-pairs text))
+
+  pub head-again : (head : List ℕ) → take (start + i) head ≡ take (start + i) (pairs text) → (list : List ℕ) →
+      list ≡ take 16 (drop start (pairs text)) → length head ≡ 28 → start ≤ 12 → i < 16 →
+      take (start + (i + 1)) (set head (start + i) (getD list i 0)) ≡ take (start + (i + 1)) (pairs text)
+  head-again head inv list are k first h =
+      kept-same (set head (start + i) (getD list i 0)) (pairs text) (start + i + 1) (start + (i + 1))
+      (kept head (pairs text) (start + i) (getD list i 0) inv
+      (ap (λ l. getD l i 0) are ∙ getD-take 16 (drop start (pairs text)) i 0 h ∙ getD-drop start (pairs text) i 0)
+      (omega arith) (omega (arith, length-pairs text)))
+      (omega arith)
+
+module _ (head source : List ℕ) (start i : ℕ) where
+  pub head-begins : take start head ≡ take start source → take (start + 0) head ≡ take (start + 0) source
+  head-begins e = kept-same head source start (start + 0) e (omega arith)
+
+  pub head-done : take (start + i) head ≡ take (start + i) source → i ≤ 16 → 16 ≤ i →
+      take (start + 16) head ≡ take (start + 16) source
+  head-done inv h k = kept-same head source (start + i) (start + 16) inv (omega arith)
+
+pub sixteen-done : (list source : List ℕ) (i : ℕ) → take i list ≡ take i source → length list ≡ 16 → i ≤ 16 → 16 ≤ i →
+    list ≡ take 16 source
+sixteen-done list source i inv k h h' =
+    let is : i ≡ 16 = omega arith in sym (take-all i list (omega arith)) ∙ inv ∙ ap (λ n. take n source) is
+
+pub shorter : (head source : List ℕ) (n : ℕ) → take 16 head ≡ take 16 source → n ≤ 16 → take n head ≡ take n source
+shorter head source n e h = sym (take-take n 16 head h) ∙ ap (take n) e ∙ take-take n 16 source h
 
 -- The loop over bytes that makes up their number.
 number-more : (bytes : List ℕ) (b : ℕ) → numberOf (bytes ++ (b ∷ [])) ≡ numberOf bytes * 256 + b

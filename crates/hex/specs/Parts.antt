@@ -1,13 +1,13 @@
 -- What the answers of src/ stand for, and what its inner functions promise one another: whether all of a text is hex, and its bytes
 -- if it is. What is hex says the crate lines.
-use Prim.Native.Nat.{ℕ, _+_, _*_}
-use mathlib.Core.Bool.{Bool, true, _&&_, _||_}
+use Prim.Native.Nat.{ℕ, _+_, _*_, _%_}
+use mathlib.Core.Bool.{Bool, true, cond, _&&_, _||_}
 use mathlib.Core.List.{List, [], _∷_}
-use mathlib.Core.Option.{Option, none, some, Option·getD}
+use mathlib.Core.Option.{Option, none, some}
 use lib.Dec.{leb}
 use lib.ListN.{take}
 use Rattle.rules.specs.declared.HardwareAddress.{HardwareAddress}
-use Rattle.lines.specs.Numbers.{isDigit, hexDigit}
+use Rattle.lines.specs.Numbers.{isDigit}
 use Rattle.hex.specs.declared.HardwareReading.{HardwareReading}
 use Rattle.hex.specs.declared.HardwareReading.the-variants as hardware
 use Rattle.hex.specs.declared.BytesReading.{BytesReading}
@@ -32,9 +32,13 @@ unfoldable pub areHex : List ℕ → Bool
 areHex [] = true
 areHex (b ∷ text) = isHex b && areHex text
 
--- A digit's value, and 0 for any other byte.
+-- A digit's value: its last four bits, and 9 more for a letter. Proved to be the one of `hexDigit` where there is one: `digit-only` in
+-- proofs/HexScan.antt. Any other byte has some value too, but no text with such a byte has bytes.
+abbrev pub letterMore : ℕ → ℕ
+letterMore b = cond (leb b 57) 0 9
+
 unfoldable pub valueOf : ℕ → ℕ
-valueOf b = Option·getD (hexDigit b) 0
+valueOf b = (b % 16 + letterMore b) % 16
 
 -- The bytes of a text, two digits each. Proved to be those of `hexBytes` where there are any: `scanned` in proofs/HexScan.antt.
 unfoldable pub pairs : List ℕ → List ℕ

@@ -1,13 +1,15 @@
-// Hardware addresses and packet bytes, read from lower-case hex. A text is checked whole before any of it is read, by a loop that
-// does not end early, so that it compiles to vector code.
+// Hardware addresses and packet bytes, read from lower-case hex. A text is checked whole before any of it is read. Loops that do not
+// end early and have a constant count compile to vector code.
 use rules::HardwareAddress;
+ghost use Prim.Native.Nat.{_+_, _*_, min, _≤_, _<_};
 ghost use mathlib.Core.Path.{_≡_};
+ghost use mathlib.Core.Bool.{_&&_};
 ghost use mathlib.Core.Option.{Option·map};
-ghost use Prim.Native.Nat.{_+_, _*_, _/_, _<_, min};
-ghost use lib.ListN.{length, getD, take};
+ghost use lib.Dec.{leb, eqb};
+ghost use lib.ListN.{length, getD, take, drop};
 ghost use Rattle.rules.specs.Bytes.{numberOf};
 ghost use Rattle.lines.specs.Numbers as Numbers;
-ghost use Rattle.hex.specs.Parts.{isLetter, isHex, areHex, valueOf, pairs, hardwareOf, headOf};
+ghost use Rattle.hex.specs.Parts.{isHex, areHex, letterMore, valueOf, pairs, hardwareOf, headOf};
 
 // What a text is as a hardware address.
 pub enum HardwareReading {
@@ -21,48 +23,82 @@ pub enum BytesReading {
     Bytes(usize),
 }
 
-// Whether a byte is a digit of hex: 0 to 9, or a to f.
-fn is_decimal(b: u8) -> bool
-    ensures { λ r. ⌜ r ≡ Numbers.isDigit b ⌝ }
+// How far a byte lies beyond a range: 0 if it is in it. A byte below its start lies beyond it too, since the distance wraps.
+fn beyond(b: u8, first: u8, last: u8) -> u8
+    requires { ⌜ first ≤ last ⌝ }
+    ensures { λ r. ⌜ eqb r 0 ≡ (leb first b && leb b last) ⌝ }
 {
-    (b'0' <= b) & (b <= b'9')
+    let above = std::num::wrapping_sub_u8(b, first);
+    let most = last - first;
+    if above <= most { 0 } else { above - most }
 }
 
-fn is_letter(b: u8) -> bool
-    ensures { λ r. ⌜ r ≡ isLetter b ⌝ }
+fn smaller(x: u8, y: u8) -> u8
+    ensures { λ r. ⌜ r ≡ min x y ⌝ }
 {
-    (b'a' <= b) & (b <= b'f')
+    if x < y { x } else { y }
 }
 
+// Whether a byte is a digit of hex: 0 to 9, or a to f. One of the distances is 0: fewer vector operations than a test of each range.
 fn is_hex(b: u8) -> bool
     ensures { λ r. ⌜ r ≡ isHex b ⌝ }
 {
-    is_decimal(b) | is_letter(b)
+    smaller(beyond(b, b'0', b'9'), beyond(b, b'a', b'f')) == 0
 }
 
-fn are_hex(text: &[u8]) -> bool
-    ensures { λ r. ⌜ r ≡ areHex (now (text .entry)) ⌝ }
+// Whether so many digits from `start` on are hex.
+fn run_is_hex(text: &[u8], start: usize, count: usize) -> bool
+    requires { ⌜ start + count ≤ length (now text) ⌝ }
+    ensures { λ r. ⌜ r ≡ areHex (take count (drop start (now (text .entry)))) ⌝ }
 {
     let mut all = true;
-    let mut at: usize = 0;
-    while at < text.len() {
-        all = all & is_hex(text[at]);
-        at += 1;
+    let mut seen: usize = 0;
+    while seen < count {
+        all = all & is_hex(text[start + seen]);
+        seen += 1;
     }
     all
 }
 
-// A digit's value, and 0 for any other byte.
+// Whether a text of 32 digits or more is hex: runs of 32, the last one up to the end of the text, so that none is shorter.
+fn runs_are_hex(text: &[u8]) -> bool
+    requires { ⌜ 32 ≤ length (now text) ⌝ }
+    ensures { λ r. ⌜ r ≡ areHex (now (text .entry)) ⌝ }
+{
+    let last = text.len() - 32;
+    let mut all = true;
+    let mut at: usize = 0;
+    while at < last {
+        all = all & run_is_hex(text, at, 32);
+        at += 32;
+    }
+    all & run_is_hex(text, last, 32)
+}
+
+// Whether all of a text is hex.
+fn are_hex(text: &[u8]) -> bool
+    ensures { λ r. ⌜ r ≡ areHex (now (text .entry)) ⌝ }
+{
+    let count = text.len();
+    if count < 32 {
+        run_is_hex(text, 0, count)
+    } else {
+        runs_are_hex(text)
+    }
+}
+
+// What a letter's value has above the last four bits of the letter.
+fn letter_more(b: u8) -> u8
+    ensures { λ r. ⌜ (r ≡ letterMore b) × (r ≤ 9) ⌝ }
+{
+    if b <= b'9' { 0 } else { 9 }
+}
+
+// A digit's value. Any other byte has some value below 16 too: a text is checked before it is read.
 fn value(b: u8) -> u8
     ensures { λ r. ⌜ (r ≡ valueOf b) × (r < 16) ⌝ }
 {
-    if is_decimal(b) {
-        b - b'0'
-    } else if is_letter(b) {
-        b - b'a' + 10
-    } else {
-        0
-    }
+    (b % 16 + letter_more(b)) % 16
 }
 
 // The i-th byte of a text: two digits each, the high one first.
@@ -89,26 +125,62 @@ fn number(text: &[u8]) -> u64
     n
 }
 
-// How many of the first 28 bytes so many digits have.
-fn head_length(digits: usize) -> usize
-    ensures { λ r. ⌜ r ≡ min 28 (digits / 2) ⌝ }
-{
-    let count = digits / 2;
-    if count < 28 { count } else { 28 }
-}
-
-// Writes the first 28 bytes of a text to the head, and says how many there are.
-fn read_head(text: &[u8], head: &mut [u8]) -> usize
-    requires { ⌜ length (now head) ≡ 28 ⌝ }
+// Writes the bytes of a text of fewer than 56 digits to the head, and says how many there are.
+fn read_short(text: &[u8], head: &mut [u8]) -> usize
+    requires { ⌜ (length (now text) < 56) × (length (now head) ≡ 28) ⌝ }
     ensures { λ r. ⌜ take r (now (head .exit)) ≡ take 28 (pairs (now (text .entry))) ⌝ }
 {
-    let end = head_length(text.len());
+    let end = text.len() / 2;
     let mut i: usize = 0;
     while i < end {
         head[i] = byte_at(text, i);
         i += 1;
     }
     i
+}
+
+// 16 bytes of a text. They stand in an array of their own, which the text cannot overlap, so that the loop compiles to vector code.
+fn sixteen(text: &[u8], start: usize) -> [u8; 16]
+    requires { ⌜ (start + 16) * 2 ≤ length (now text) ⌝ }
+    ensures { λ r. ⌜ r ≡ take 16 (drop start (pairs (now (text .entry)))) ⌝ }
+{
+    let mut bytes = [0u8; 16];
+    let mut read: usize = 0;
+    while read < 16 {
+        bytes[read] = byte_at(text, start + read);
+        read += 1;
+    }
+    bytes
+}
+
+// Writes 16 bytes of a text to the head, behind those that are there.
+fn read_sixteen(text: &[u8], head: &mut [u8], start: usize)
+    requires { ⌜ (start + 16) * 2 ≤ length (now text) ⌝ }
+    requires { ⌜ (length (now head) ≡ 28) × (start ≤ 12) ⌝ }
+    requires { ⌜ take start (now head) ≡ take start (pairs (now text)) ⌝ }
+    ensures { λ r. ⌜ take (start + 16) (now (head .exit)) ≡ take (start + 16) (pairs (now (text .entry))) ⌝ }
+{
+    let bytes = sixteen(text, start);
+    let mut kept: usize = 0;
+    while kept < 16 {
+        head[start + kept] = bytes[kept];
+        kept += 1;
+    }
+}
+
+// Writes the first 28 bytes of a text to the head, and says how many there are. 28 bytes are 16, and 16 more of which the first four
+// are there already.
+fn read_head(text: &[u8], head: &mut [u8]) -> usize
+    requires { ⌜ length (now head) ≡ 28 ⌝ }
+    ensures { λ r. ⌜ take r (now (head .exit)) ≡ take 28 (pairs (now (text .entry))) ⌝ }
+{
+    if text.len() < 56 {
+        read_short(text, head)
+    } else {
+        read_sixteen(text, head, 0);
+        read_sixteen(text, head, 12);
+        28
+    }
 }
 
 // Reads a hardware address: "exactly 12 digits".

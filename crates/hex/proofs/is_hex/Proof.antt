@@ -1,10 +1,12 @@
 -- `hex::is_hex`: a digit from 0 to 9 or a letter.
 use borrow.Author.Needs.{needs}
+use Rattle.hex.proofs.Laws.{hex-told}
 use Rattle.hex.proofs.is_hex.Statement.{statement}
 use Rattle.hex.proofs.is_hex.Tie as tie
 
 returns : tie.Need-returns
-returns c = rw (c .before .is-decimal .ensures, c .is-letter .ensures)
+returns c = search hex-told
 
 pub is-hex-spec : {M : Type 1} → statement M
-is-hex-spec = tie.close (tie.spec (λ c κs. search needs) (λ c κs. search needs) returns)
+is-hex-spec =
+    tie.close (tie.spec (λ c κs. search needs) (λ c κs. search needs) (λ c κs. search needs) returns)

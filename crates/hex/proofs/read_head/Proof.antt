@@ -1,49 +1,20 @@
--- `hex::read_head`: the loop has kept the first `i` bytes.
-use Prim.Native.Nat.{_-_, _≤_}
-use mathlib.Core.Path.{_≡_}
-use lib.ListN.{length, take}
+-- `hex::read_head`: a short text, or 16 bytes twice.
 use borrow.Author.Needs.{needs}
-use Rattle.hex.specs.Parts.{pairs}
-use Rattle.hex.proofs.Laws.{kept-again, kept-done}
+use Rattle.hex.proofs.Laws.{shorter}
 use Rattle.hex.proofs.read_head.Statement.{statement}
 use Rattle.hex.proofs.read_head.Tie as tie
 
-abbrev Inv-loop : tie.InvT-loop
-Inv-loop text head₀ end i₀ head i = (i ≤ end) × (length head ≡ 28) × (take i head ≡ take i (pairs text))
-
-abbrev μ-loop : tie.MeasureT-loop
-μ-loop text head₀ end i₀ head i = end - i
-
-loop-holds : tie.Need-loop-holds Inv-loop μ-loop
-loop-holds c = search needs
-
-byte-at-requires : tie.Need-byte-at-requires Inv-loop μ-loop
-byte-at-requires c κs = search needs
-
-slice-write-head : tie.Need-slice-write-head Inv-loop μ-loop
-slice-write-head c = search needs
-
-loop-again : tie.Need-loop-again Inv-loop μ-loop
-loop-again c = search (kept-again, needs)
-
-same-length : tie.Need-same-length Inv-loop μ-loop
-same-length c = search needs
-
-returns : tie.Need-returns Inv-loop μ-loop
-returns c = search (kept-done, needs)
+read-sixteen-requires-2 : tie.Need-read-sixteen-requires-2
+read-sixteen-requires-2 c κs = (search needs, (search needs, search (shorter, needs)))
 
 pub read-head-spec : {M : Type 1} → statement M
 read-head-spec =
     tie.close
     (tie.spec
-    Inv-loop
-    μ-loop
     (λ c κs. search needs)
-    loop-holds
-    byte-at-requires
-    slice-write-head
+    (λ c κs. search needs)
+    read-sixteen-requires-2
     (λ c. search needs)
     (λ c. search needs)
-    loop-again
-    same-length
-    returns)
+    (λ c. search needs)
+    (λ c. search needs))
