@@ -1,5 +1,5 @@
 -- Digits read one after the other: a law for each way that a function of src/ goes on or ends.
-use Prim.Native.Nat.{ℕ, zero, suc, _+_, _-_, _*_, _^_, _<_, _≤_}
+use Prim.Native.Nat.{ℕ, zero, suc, _+_, _-_, _*_, _<_, _≤_}
 use mathlib.Core.Path.{_≡_, refl, sym, ap, subst, _∙_}
 use mathlib.Core.Bool.{Bool, true, false, not, _&&_, and-true, and-false, true≢false}
 use mathlib.Core.List.{List, [], _∷_}
@@ -8,7 +8,7 @@ use mathlib.Core.Logic.{⊎-elim}
 use native.Mathlib.Nat.{lt-of-lt-of-le, pow-succ', pow-le-pow-right, eq-or-lt-of-le}
 use native.Mathlib.Numerals.{add-one}
 use native.Mathlib.Omega.{arith}
-use mir.Syntax.{w8, w64}
+use mir.Syntax.{w64}
 use mir.Val.{Fits}
 use lib.Dec.{eqb, leb, ltb}
 use lib.ListN.{length, getD, take, drop, drop-of-length-le, List·getD-eq-default}
@@ -16,7 +16,7 @@ use lib.Seq.{drop-cons}
 use borrow.Author.Tests.{le-leb, lt-leb, leb-false, leb-true, ne-eqb, ltb-true, ltb-false, not-true, not-false}
 use Rattle.rules.proofs.BytesLaws.{and-both}
 use Rattle.lines.specs.Fields.{parts, firstPart, only}
-use Rattle.lines.specs.Numbers.{isDigit, areDigits, isEmpty, isNumeral, valueAfter, number, largest, decimal}
+use Rattle.lines.specs.Numbers.{isDigit, areDigits, isEmpty, isNumeral, valueAfter, number, largest}
 use Rattle.lines.proofs.ReadingLaws.{none≢some}
 use Rattle.lines.proofs.FieldLaws.{first-separator, first-other, first-take, first-length, one-part, separated}
 use Rattle.lines.proofs.NumberLaws.{digit-bounds, foreign-in-number, number-exact, decimal-at-most}
@@ -115,7 +115,7 @@ module _ (text : List ℕ) where
               before .same-number s other most ∙ ap (numberAfter most value) (goes-on s other digit) ∙ rw digit;
         }
 
-    pub begins-more : isNextDigit value (getD text i 0) ≡ true → (new : ℕ) → new ≡ appended value (getD text i 0) → Begins text new (i + 1)
+    begins-more : isNextDigit value (getD text i 0) ≡ true → (new : ℕ) → new ≡ appended value (getD text i 0) → Begins text new (i + 1)
     begins-more next new is = rw is (begins-digit (and-both (isDigit (getD text i 0)) _ next .0))
 
 -- Where the digits end: at a byte that is no such digit, at the text's end, or as many as are read.
@@ -346,6 +346,10 @@ module _ (s most : ℕ) (other : isDigit s ≡ false) (fits : Fits w64 most) (te
         by-end true end = by-start end (hasNumeralStart (take count text)) refl
         by-end false more = more-none more
 
+-- Nothing is said of a malformed part's length.
+pub no-end : (end length : ℕ) (n : ℕ) → _≡_ {A = Option ℕ} none (some n) → end ≡ length
+no-end end length n e = absurd (none≢some e)
+
 -- A text is a number if it is its own first part.
 module _ (s most : ℕ) (other : isDigit s ≡ false) (text : List ℕ) where
   pub separator-in-number : length (firstPart s text) < length text → number most text ≡ none
@@ -373,7 +377,3 @@ module _ (s most : ℕ) (other : isDigit s ≡ false) (text : List ℕ) where
         go : (r : Option ℕ) → read ≡ r → number most text ≡ none
         go none k = part-none (sym is ∙ k)
         go (some n) k = separator-in-number (omega (arith, first-length s text, told n k, h))
-
--- Nothing is said of a malformed part's length.
-pub no-end : (end length : ℕ) (n : ℕ) → _≡_ {A = Option ℕ} none (some n) → end ≡ length
-no-end end length n e = absurd (none≢some e)

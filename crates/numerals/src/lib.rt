@@ -29,11 +29,7 @@ struct Digits {
 fn is_digit(byte: u8) -> bool
     ensures { λ r. ⌜ r ≡ Numbers.isDigit byte ⌝ }
 {
-    if byte < b'0' {
-        false
-    } else {
-        byte <= b'9'
-    }
+    if byte < b'0' { false } else { byte <= b'9' }
 }
 
 // Whether a byte is a digit that keeps a value within 64 bits: 1,844,674,407,370,955,161 and a 5 make 2^64 - 1.
@@ -62,11 +58,7 @@ fn with_digit(value: u64, digit: u8) -> u64
 fn up_to_19(count: usize) -> usize
     ensures { λ r. ⌜ (r ≤ count) × (r ≤ 19) × (r < 19 → r ≡ count) ⌝ }
 {
-    if count < 19 {
-        count
-    } else {
-        19
-    }
+    if count < 19 { count } else { 19 }
 }
 
 // The digits that a text begins with, 19 at most: whatever they are, they stand for less than 2^64.
