@@ -137,13 +137,13 @@ pub fn packet(rest: &[u8], head: &mut [u8; 28]) -> Command
     ensures { λ r. ⌜ Makes r (now (head .exit)) (ifCount 3 packetCall (packetWord ∷ parts tab (now (rest .entry)))) ⌝ }
 {
     let first = numerals::first_number(rest, TAB, LARGEST);
-    let end = first.length;
+    let time_end = first.length;
     let reading = first.reading;
     match reading {
         Reading::Malformed => Command::Malformed,
         Reading::Number(time) => {
-            if end < rest.len() {
-                packet_at(Time(time), fields::behind(rest, end), head)
+            if time_end < rest.len() {
+                packet_at(Time(time), fields::behind(rest, time_end), head)
             } else {
                 Command::Malformed
             }

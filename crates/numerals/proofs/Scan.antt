@@ -15,12 +15,12 @@ use lib.ListN.{length, getD, take, drop, drop-of-length-le, List·getD-eq-defaul
 use lib.Seq.{drop-cons}
 use borrow.Author.Tests.{le-leb, lt-leb, leb-false, leb-true, ne-eqb, ltb-true, ltb-false, not-true, not-false}
 use Rattle.rules.proofs.BytesLaws.{and-both}
-use Rattle.lines.specs.Fields.{parts, firstPart, only}
+use Rattle.lines.specs.Fields.{tab, parts, firstPart, only}
 use Rattle.lines.specs.Numbers.{isDigit, areDigits, isEmpty, isNumeral, valueAfter, number, largest}
 use Rattle.lines.proofs.ReadingLaws.{none≢some}
 use Rattle.lines.proofs.FieldLaws.{first-separator, first-other, first-take, first-length, one-part, separated}
 use Rattle.lines.proofs.NumberLaws.{digit-bounds, foreign-in-number, number-exact, decimal-at-most}
-use Rattle.numerals.specs.Parts.{appended, isNextDigit, numberAfter, hasNumeralStart, isNumber, Begins, Read}
+use Rattle.numerals.specs.Parts.{appended, isNextDigit, numberAfter, hasNumeralStart, isNumber, isFirstNumber, Begins, Read}
 
 -- Digits only add to a value.
 grows : (n : ℕ) (text : List ℕ) → n ≤ valueAfter n text
@@ -212,17 +212,20 @@ long-start [] (suc (suc count)) h more = absurd (omega arith)
 long-start (b ∷ []) (suc (suc count)) h more = absurd (omega arith)
 long-start (b ∷ c ∷ text) (suc (suc count)) h more = refl
 
--- The three tests together.
-module _ (s most : ℕ) (text : List ℕ) (value count : ℕ) where
-  pub too-large : most < value → false ≡ isNumber s most text value count
+-- The tests together.
+module _ (text : List ℕ) (value count most : ℕ) where
+  pub too-large : most < value → false ≡ isNumber text value count most
   too-large h = rw (lt-leb value most h)
 
-  module _ (small : value ≤ most) (start : Bool) (told : start ≡ hasNumeralStart (take count text)) where
-    pub no-start : start ≡ false → false ≡ isNumber s most text value count
-    no-start e = rw (le-leb value most small, ← told, e)
+  pub small-enough : value ≤ most → (start : Bool) → start ≡ hasNumeralStart (take count text) → start ≡ isNumber text value count most
+  small-enough h start told = rw (le-leb value most h) told
 
-    pub start-end : start ≡ true → (end : Bool) → end ≡ isEmpty (firstPart s (drop count text)) → end ≡ isNumber s most text value count
-    start-end e end is = rw (le-leb value most small, ← told, e) is
+  module _ (s : ℕ) (is : Bool) (told : is ≡ isNumber text value count most) where
+    pub no-first : is ≡ false → false ≡ isFirstNumber text value count most s
+    no-first e = rw (← told, e)
+
+    pub first-if-end : is ≡ true → (end : Bool) → end ≡ isEmpty (firstPart s (drop count text)) → end ≡ isFirstNumber text value count most s
+    first-if-end e end ends = rw (← told, e) ends
 
 -- A number by its start and its digits.
 numeral : (text : List ℕ) → isNumeral text ≡ (areDigits text && hasNumeralStart text)
@@ -266,6 +269,18 @@ is-empty : (text : List ℕ) → isEmpty text ≡ true → text ≡ []
 is-empty [] e = refl
 is-empty (b ∷ text) e = absurd (true≢false (sym e))
 
+-- A text and its first part.
+module _ (s most : ℕ) (other : isDigit s ≡ false) (text : List ℕ) where
+  pub separator-in-number : length (firstPart s text) < length text → number most text ≡ none
+  separator-in-number more = ap (number most) (separated s text more) ∙ foreign-in-number most (firstPart s text) s _ other
+
+  whole-part : length (firstPart s text) ≡ length text → firstPart s text ≡ text
+  whole-part whole = ap (λ ps. getD ps 0 []) (one-part s text whole)
+
+  part-none : number most (firstPart s text) ≡ none → number most text ≡ none
+  part-none e =
+      ⊎-elim (λ whole. ap (number most) (sym (whole-part whole)) ∙ e) separator-in-number (eq-or-lt-of-le (first-length s text))
+
 -- The first part by the digits that are read of it.
 module _ (s most : ℕ) (other : isDigit s ≡ false) (fits : Fits w64 most) (text : List ℕ) (value count : ℕ) (read : Read 20 text value count) where
   -- It ends behind them.
@@ -276,15 +291,22 @@ module _ (s most : ℕ) (other : isDigit s ≡ false) (fits : Fits w64 most) (te
     part-length : count ≡ length (firstPart s text)
     part-length = omega (arith, read .begins .same-end s other, ap length nothing-left)
 
-    part-start : hasNumeralStart (firstPart s text) ≡ hasNumeralStart (take count text)
-    part-start = ap hasNumeralStart (first-take s text ∙ ap (λ k. take k text) (sym part-length))
-
-    part-number : hasNumeralStart (take count text) ≡ true → number most (firstPart s text) ≡ only (leb value most) value
+    part-number : number most (firstPart s text) ≡ only (isNumber text value count most) value
     unfolding numberAfter areDigits valueAfter
-    part-number start =
-        numeral-number most (firstPart s text) (part-start ∙ start)
-        ∙ read .begins .same-number s other most
-        ∙ ap (numberAfter most value) nothing-left
+    part-number = go (hasNumeralStart (take count text)) refl
+      where
+        start : hasNumeralStart (firstPart s text) ≡ hasNumeralStart (take count text)
+        start = ap hasNumeralStart (first-take s text ∙ ap (λ k. take k text) (sym part-length))
+
+        go : (t : Bool) → hasNumeralStart (take count text) ≡ t → number most (firstPart s text) ≡ only (isNumber text value count most) value
+        go false e =
+            no-numeral most (firstPart s text) (start ∙ e)
+            ∙ sym (ap (λ t. only (leb value most && t) value) e ∙ ap (λ t. only t value) (and-false (leb value most)))
+        go true e =
+            numeral-number most (firstPart s text) (start ∙ e)
+            ∙ read .begins .same-number s other most
+            ∙ ap (numberAfter most value) nothing-left
+            ∙ sym (ap (λ t. only (leb value most && t) value) e ∙ ap (λ t. only t value) (and-true (leb value most)))
 
   -- It goes on.
   more-none : isEmpty (firstPart s (drop count text)) ≡ false → number most (firstPart s text) ≡ none
@@ -316,64 +338,51 @@ module _ (s most : ℕ) (other : isDigit s ≡ false) (fits : Fits w64 most) (te
           too-long most (firstPart s text) (omega (arith, fits .fits))
           (omega (arith, ltb-false count 20 e, read .begins .same-end s other, ap length left))
 
-  -- What the three tests say.
-  module _ (is : Bool) (told : is ≡ isNumber s most text value count) where
-    abbrev Tests : Type 0
-    Tests = (leb value most ≡ true) × (hasNumeralStart (take count text) ≡ true) × (isEmpty (firstPart s (drop count text)) ≡ true)
-
-    tests : is ≡ true → Tests
-    tests e =
-        let (small, rest) = and-both (leb value most) _ (sym told ∙ e) in
-        let (start, end) = and-both (hasNumeralStart (take count text)) _ rest in
-        (small, start, end)
+  -- What the tests say of it.
+  module _ (is : Bool) (told : is ≡ isFirstNumber text value count most s) where
+    both : is ≡ true → (isNumber text value count most ≡ true) × (isEmpty (firstPart s (drop count text)) ≡ true)
+    both e = and-both (isNumber text value count most) _ (sym told ∙ e)
 
     pub first-read : is ≡ true → some value ≡ number most (firstPart s text)
-    first-read e = let (small, start, end) = tests e in sym (part-number end start ∙ ap (λ t. only t value) small)
+    first-read e = sym (part-number (both e .1) ∙ ap (λ t. only t value) (both e .0))
 
     pub first-ends : is ≡ true → count ≡ length (firstPart s text)
-    first-ends e = part-length (tests e .2)
+    first-ends e = part-length (both e .1)
 
     pub first-refused : is ≡ false → none ≡ number most (firstPart s text)
-    first-refused e = sym (by-end (isEmpty (firstPart s (drop count text))) refl)
+    first-refused e = sym (go (isEmpty (firstPart s (drop count text))) refl)
       where
-        by-start : (end : isEmpty (firstPart s (drop count text)) ≡ true) → (t : Bool) → hasNumeralStart (take count text) ≡ t
-            → number most (firstPart s text) ≡ none
-        by-start end false start = no-numeral most (firstPart s text) (part-start end ∙ start)
-        by-start end true start =
-            part-number end start ∙ ap (λ t. only t value) (sym (and-true (leb value most)) ∙ (rw (start, end) at (sym told ∙ e)))
-
-        by-end : (t : Bool) → isEmpty (firstPart s (drop count text)) ≡ t → number most (firstPart s text) ≡ none
-        by-end true end = by-start end (hasNumeralStart (take count text)) refl
-        by-end false more = more-none more
+        go : (t : Bool) → isEmpty (firstPart s (drop count text)) ≡ t → number most (firstPart s text) ≡ none
+        go true end =
+            part-number end
+            ∙ ap (λ t. only t value)
+            (sym (ap (λ t. isNumber text value count most && t) end ∙ and-true (isNumber text value count most)) ∙ sym told ∙ e)
+        go false more = more-none more
 
 -- Nothing is said of a malformed part's length.
 pub no-end : (end length : ℕ) (n : ℕ) → _≡_ {A = Option ℕ} none (some n) → end ≡ length
 no-end end length n e = absurd (none≢some e)
 
--- A text is a number if it is its own first part.
-module _ (s most : ℕ) (other : isDigit s ≡ false) (text : List ℕ) where
-  pub separator-in-number : length (firstPart s text) < length text → number most text ≡ none
-  separator-in-number more = ap (number most) (separated s text more) ∙ foreign-in-number most (firstPart s text) s _ other
+-- All of a text, as its part before the first tab: there is none in a number.
+module _ (most : ℕ) (fits : Fits w64 most) (text : List ℕ) (value count : ℕ) (read : Read 20 text value count) where
+  pub more-read : count < length text → none ≡ number most text
+  more-read more = sym (go (isEmpty (firstPart tab (drop count text))) refl)
+    where
+      go : (t : Bool) → isEmpty (firstPart tab (drop count text)) ≡ t → number most text ≡ none
+      go true end = separator-in-number tab most refl text (omega (arith, part-length tab most refl fits text value count read end))
+      go false on = part-none tab most refl text (more-none tab most refl fits text value count read on)
 
-  whole-part : length (firstPart s text) ≡ length text → firstPart s text ≡ text
-  whole-part whole = ap (λ ps. getD ps 0 []) (one-part s text whole)
+  module _ (all : length text ≤ count) (is : Bool) (told : is ≡ isNumber text value count most) where
+    whole : number most text ≡ only is value
+    whole =
+        let end = sym (text-end text count tab all) in
+        let place = part-length tab most refl fits text value count read end in
+        ap (number most) (sym (whole-part tab most refl text (omega (arith, read .begins .within, place))))
+        ∙ part-number tab most refl fits text value count read end
+        ∙ ap (λ t. only t value) (sym told)
 
-  part-none : number most (firstPart s text) ≡ none → number most text ≡ none
-  part-none e =
-      ⊎-elim (λ whole. ap (number most) (sym (whole-part whole)) ∙ e) separator-in-number (eq-or-lt-of-le (first-length s text))
+    pub whole-read : is ≡ true → some value ≡ number most text
+    whole-read e = sym (whole ∙ ap (λ t. only t value) e)
 
-  module _ (read : Option ℕ) (is : read ≡ number most (firstPart s text)) (end : ℕ)
-      (told : (n : ℕ) → read ≡ some n → end ≡ length (firstPart s text)) where
-    pub whole-read : end ≡ length text → read ≡ number most text
-    whole-read e = go read refl
-      where
-        go : (r : Option ℕ) → read ≡ r → read ≡ number most text
-        go none k = k ∙ sym (part-none (sym is ∙ k))
-        go (some n) k = is ∙ ap (number most) (whole-part (sym (told n k) ∙ e))
-
-    pub part-read : (end ≡ length text → ⊥) → none ≡ number most text
-    part-read h = sym (go read refl)
-      where
-        go : (r : Option ℕ) → read ≡ r → number most text ≡ none
-        go none k = part-none (sym is ∙ k)
-        go (some n) k = separator-in-number (omega (arith, first-length s text, told n k, h))
+    pub whole-refused : is ≡ false → none ≡ number most text
+    whole-refused e = sym (whole ∙ ap (λ t. only t value) e)

@@ -47,7 +47,9 @@ pub record Read (limit : ℕ) (text : List ℕ) (value count : ℕ) : Type 0 whe
   pub at-most : count ≤ limit
   pub stops : count < limit → isNextDigit value (getD text count 0) ≡ false
 
--- Whether such digits are all of the first part, and a number up to the largest allowed.
-abbrev pub isNumber : ℕ → ℕ → List ℕ → ℕ → ℕ → Bool
-isNumber separator most text value count =
-    leb value most && (hasNumeralStart (take count text) && isEmpty (firstPart separator (drop count text)))
+-- Whether such digits are a number up to the largest allowed, and all of the first part too.
+abbrev pub isNumber : List ℕ → ℕ → ℕ → ℕ → Bool
+isNumber text value count most = leb value most && hasNumeralStart (take count text)
+
+abbrev pub isFirstNumber : List ℕ → ℕ → ℕ → ℕ → ℕ → Bool
+isFirstNumber text value count most separator = isNumber text value count most && isEmpty (firstPart separator (drop count text))

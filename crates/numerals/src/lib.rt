@@ -6,7 +6,7 @@ ghost use mathlib.Core.Option.{some};
 ghost use lib.ListN.{length, take, drop};
 ghost use Rattle.lines.specs.Fields.{firstPart};
 ghost use Rattle.lines.specs.Numbers as Numbers;
-ghost use Rattle.numerals.specs.Parts.{readingOf, appended, isNextDigit, Read, hasNumeralStart, isNumber};
+ghost use Rattle.numerals.specs.Parts.{readingOf, appended, isNextDigit, Read, hasNumeralStart, isNumber, isFirstNumber};
 
 // What a text is as a number.
 pub enum Reading {
@@ -121,28 +121,38 @@ fn has_numeral_start(text: &[u8], count: usize) -> bool
     }
 }
 
-// Whether the digits that a text begins with are all of its first part, and a number up to the largest allowed.
-fn is_number(text: &[u8], separator: u8, most: u64, value: u64, count: usize) -> bool
+// Whether the first bytes of a text, digits that stand for a value, are a number up to the largest allowed.
+fn is_number(text: &[u8], value: u64, count: usize, most: u64) -> bool
     requires { ⌜ count ≤ length (now text) ⌝ }
-    ensures { λ r. ⌜ r ≡ isNumber separator most (now (text .entry)) value count ⌝ }
+    ensures { λ r. ⌜ r ≡ isNumber (now (text .entry)) value count most ⌝ }
 {
     if most < value {
         false
-    } else if has_numeral_start(text, count) {
+    } else {
+        has_numeral_start(text, count)
+    }
+}
+
+// Whether they are also all of its first part.
+fn is_first_number(text: &[u8], value: u64, count: usize, most: u64, separator: u8) -> bool
+    requires { ⌜ count ≤ length (now text) ⌝ }
+    ensures { λ r. ⌜ r ≡ isFirstNumber (now (text .entry)) value count most separator ⌝ }
+{
+    if is_number(text, value, count, most) {
         is_end(text, count, separator)
     } else {
         false
     }
 }
 
-// The first part as a number up to the largest allowed. In one pass: it ends where its digits end.
+// The first part as a number up to the largest allowed, in one pass: it ends where its digits end.
 pub fn first_number(text: &[u8], separator: u8, most: u64) -> First
     requires { ⌜ Numbers.isDigit separator ≡ false ⌝ }
     ensures { λ r. ⌜ readingOf (r .reading) ≡ Numbers.number most (firstPart separator (now (text .entry))) ⌝ }
     ensures { λ r. ⌜ ((n : ℕ) → readingOf (r .reading) ≡ some n → r .length ≡ length (firstPart separator (now (text .entry)))) ⌝ }
 {
     let found = first_20(text);
-    if is_number(text, separator, most, found.value, found.count) {
+    if is_first_number(text, found.value, found.count, most, separator) {
         First {
             reading: Reading::Number(found.value),
             length: found.count,
@@ -159,9 +169,11 @@ pub fn first_number(text: &[u8], separator: u8, most: u64) -> First
 pub fn number(text: &[u8], most: u64) -> Reading
     ensures { λ r. ⌜ readingOf r ≡ Numbers.number most (now (text .entry)) ⌝ }
 {
-    let first = first_number(text, b'\t', most);
-    if first.length == text.len() {
-        first.reading
+    let found = first_20(text);
+    if found.count < text.len() {
+        Reading::Malformed
+    } else if is_number(text, found.value, found.count, most) {
+        Reading::Number(found.value)
     } else {
         Reading::Malformed
     }
