@@ -81,16 +81,20 @@ number-one-part n text read = rw (number-exact 255 text n (omega arith) read) (p
 pub to-end : (start : ℕ) (text : List ℕ) → take (length text - start) (drop start text) ≡ drop start text
 to-end start text = take-all (length text - start) (drop start text) (rw length-drop (omega arith))
 
--- `rest` is what is not read yet, and `first` the text of the next octet; behind its dot is the next start.
-module _ (text : List ℕ) (start : ℕ) (within : start ≤ length text) (rest : List ℕ) (behind : rest ≡ drop start text) where
-  module _ (first : List ℕ) (part : first ≡ firstPart dot rest) (more : length first ≡ length rest → ⊥) where
-    pub next-within : start + (length first + 1) ≤ length text
-    next-within = omega (arith, first-length dot rest, ap length part, ap length behind, length-drop start text)
+-- `rest` is what is not read yet, and its first part, up to `end`, the next octet; behind its dot is the next start.
+module _ (rest : List ℕ) (reading : Reading) (read : readingOf reading ≡ number 255 (firstPart dot rest)) (n : ℕ) (is : reading ≡ Number n)
+    (end : ℕ) (ends : (m : ℕ) → readingOf reading ≡ some m → end ≡ length (firstPart dot rest)) where
+  octet-end : end ≡ length (firstPart dot rest)
+  octet-end = ends n (ap readingOf is)
 
-    pub next-fits : length text < 2 ^ 64 → Fits w64 (start + (length first + 1))
+  module _ (text : List ℕ) (start : ℕ) (within : start ≤ length text) (behind : rest ≡ drop start text) (more : end ≡ length rest → ⊥) where
+    pub next-within : start + (end + 1) ≤ length text
+    next-within = omega (arith, first-length dot rest, octet-end, more, ap length behind, length-drop start text)
+
+    pub next-fits : length text < 2 ^ 64 → Fits w64 (start + (end + 1))
     next-fits h = record { fits = omega (arith, next-within) }
 
-    pub step-fits : length text < 2 ^ 64 → Fits w64 (length first + 1)
+    pub step-fits : length text < 2 ^ 64 → Fits w64 (end + 1)
     step-fits h = record { fits = omega (arith, next-within) }
 
 pub ruleset next-start = (to-end, next-within, next-fits, step-fits)
@@ -102,37 +106,35 @@ module _ (text : List ℕ) (count value start : ℕ) (rest : List ℕ) (behind :
   left = told ∙ ap (λ t. addressAfter count value (parts dot t)) (sym behind)
 
   -- Before the last octet.
-  module _ (first : List ℕ) (part : first ≡ firstPart dot rest) where
-    pub part-last : length first ≡ length rest → count < 3 → none ≡ address text
-    part-last e h =
+  module _ (reading : Reading) (read : readingOf reading ≡ number 255 (firstPart dot rest)) where
+    pub part-malformed : reading ≡ Malformed → none ≡ address text
+    part-malformed e =
         sym
         (left
-        ∙ ap (addressAfter count value) (one-part dot rest (sym (ap length part) ∙ e))
-        ∙ not-four count value (rest ∷ []) (λ k. omega (arith, k)))
+        ∙ ap (addressAfter count value) (first-of-parts dot rest)
+        ∙ refused count value (firstPart dot rest) (drop 1 (parts dot rest)) (sym read ∙ ap readingOf e))
 
-    module _ (reading : Reading) (read : readingOf reading ≡ number 255 first) where
-      first-read : (r : Option ℕ) → readingOf reading ≡ r → number 255 (firstPart dot rest) ≡ r
-      first-read r e = sym (ap (number 255) part) ∙ sym read ∙ e
-
-      pub part-malformed : reading ≡ Malformed → none ≡ address text
-      part-malformed e =
+    module _ (n : ℕ) (is : reading ≡ Number n) (end : ℕ) (ends : (m : ℕ) → readingOf reading ≡ some m → end ≡ length (firstPart dot rest)) where
+      pub part-last : end ≡ length rest → count < 3 → none ≡ address text
+      part-last e h =
           sym
           (left
-          ∙ ap (addressAfter count value) (first-of-parts dot rest)
-          ∙ refused count value (firstPart dot rest) (drop 1 (parts dot rest)) (first-read none (ap readingOf e)))
+          ∙ ap (addressAfter count value) (one-part dot rest (sym (octet-end rest reading read n is end ends) ∙ e))
+          ∙ not-four count value (rest ∷ []) (λ k. omega (arith, k)))
 
-      pub part-number : (n : ℕ) → reading ≡ Number n → (new : ℕ) → new ≡ value * 256 + n → (length first ≡ length rest → ⊥)
-          → address text ≡ addressAfter (count + 1) new (parts dot (drop (start + (length first + 1)) text))
-      part-number n e new made more =
+      pub part-number : (new : ℕ) → new ≡ value * 256 + n → (end ≡ length rest → ⊥)
+          → address text ≡ addressAfter (count + 1) new (parts dot (drop (start + (end + 1)) text))
+      part-number new made more =
           left
-          ∙ ap (addressAfter count value)
-          (more-parts dot rest (omega (arith, first-length dot rest, ap length part, more)))
-          ∙ taken count value (firstPart dot rest) (parts dot (drop (suc (length (firstPart dot rest))) rest)) n
-          (first-read (some n) (ap readingOf e))
+          ∙ ap (addressAfter count value) (more-parts dot rest (omega (arith, first-length dot rest, here, more)))
+          ∙ taken count value (firstPart dot rest) (parts dot (drop (suc (length (firstPart dot rest))) rest)) n (sym read ∙ ap readingOf is)
           ∙ ap₂ (λ v t. addressAfter (count + 1) v (parts dot t)) (sym made) place
         where
-          place : drop (suc (length (firstPart dot rest))) rest ≡ drop (start + (length first + 1)) text
-          place = rw (← part, behind, drop-drop, add-one)
+          here : end ≡ length (firstPart dot rest)
+          here = octet-end rest reading read n is end ends
+
+          place : drop (suc (length (firstPart dot rest))) rest ≡ drop (start + (end + 1)) text
+          place = rw (← here, behind, drop-drop, add-one)
 
   -- The last octet.
   module _ (last : 3 ≤ count) (within : count ≤ 3) (reading : Reading) (read : readingOf reading ≡ number 255 rest) where

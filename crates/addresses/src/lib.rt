@@ -4,7 +4,6 @@ use rules::Ipv4Address;
 ghost use Prim.Native.Nat.{_+_, _*_, _<_};
 ghost use mathlib.Core.Path.{_≡_};
 ghost use Rattle.lines.specs.Numbers as Numbers;
-ghost use Rattle.numerals.specs.Parts.{readingOf};
 ghost use Rattle.addresses.specs.Parts.{addressOf};
 
 // What a text is as an address.
@@ -13,12 +12,8 @@ pub enum AddressReading {
     Address(Ipv4Address),
 }
 
-// One of the four numbers of an address.
-fn octet(text: &[u8]) -> Reading
-    ensures { λ r. ⌜ readingOf r ≡ Numbers.number 255 (now (text .entry)) ⌝ }
-{
-    numerals::number(text, 255)
-}
+// The largest of the four numbers of an address.
+const LARGEST_OCTET: u64 = 255;
 
 // An octet behind those of a value.
 fn with_octet(value: u64, octet: u64) -> u64
@@ -37,18 +32,20 @@ pub fn address(text: &[u8]) -> AddressReading
     let mut count: usize = 0;
     while count < 3 {
         let rest = &text[start..];
-        let first = fields::part(rest, b'.');
-        let Reading::Number(next) = octet(first) else {
+        let first = numerals::first_number(rest, b'.', LARGEST_OCTET);
+        let end = first.length;
+        let reading = first.reading;
+        let Reading::Number(next) = reading else {
             return AddressReading::Malformed;
         };
-        if first.len() == rest.len() {
+        if end == rest.len() {
             return AddressReading::Malformed;
         }
         value = with_octet(value, next);
-        start += first.len() + 1;
+        start += end + 1;
         count += 1;
     }
-    let Reading::Number(last) = octet(&text[start..]) else {
+    let Reading::Number(last) = numerals::number(&text[start..], LARGEST_OCTET) else {
         return AddressReading::Malformed;
     };
     AddressReading::Address(Ipv4Address(with_octet(value, last) as u32))

@@ -17,6 +17,7 @@ use Rattle.lines.specs.Fields.{tab, parts, firstPart, _then_}
 use Rattle.lines.specs.Forms.{time, lentBuffer, freshWord, tickWord, packetWord, dropWord}
 use Rattle.lines.proofs.FieldLaws.{first-length, one-part, more-parts, first-of-parts, separated}
 use Rattle.numerals.specs.Parts.{readingOf}
+use Rattle.numerals.proofs.Scan.{separator-in-number}
 use Rattle.numerals.specs.declared.Reading.{Reading}
 use Rattle.numerals.specs.declared.Reading.the-variants as Reading
 use Rattle.hex.specs.Parts.{hardwareOf, headOf}
@@ -26,11 +27,11 @@ use Rattle.hex.specs.declared.BytesReading.{BytesReading}
 use Rattle.hex.specs.declared.BytesReading.the-variants as BytesReading
 use Rattle.lines.specs.Numbers.{number, largest, largestDraw, bytes, hardware}
 use Rattle.lines.proofs.ReadingLaws.{then-none}
-use Rattle.lines.proofs.NumberLaws.{foreign-in-number, number-at-most}
+use Rattle.lines.proofs.NumberLaws.{number-at-most}
 use Rattle.lines.proofs.HexLaws.{foreign-in-bytes, foreign-in-hardware}
 use Rattle.forms.specs.declared.Command.{Command}
 use Rattle.forms.specs.declared.Command.the-variants as Command
-use Rattle.forms.specs.Parts.{Makes, Always, headed, freshCall, tickCall, packetCall, dropCall, ifCount}
+use Rattle.forms.specs.Parts.{Makes, Always, headed, freshCall, tickCall, packetCall, dropCall, tickAt, packetAt, dropAt, ifCount}
 
 -- A call that needs so many fields.
 if-count : (count : ℕ) (call : List (List ℕ) → Option Call) (fields : List (List ℕ)) → length fields ≡ count
@@ -68,7 +69,7 @@ last-field count call front last e refuses = ⊎-elim alone more (eq-or-lt-of-le
 -- No reader takes a tab.
 module _ (text : List ℕ) (more : length (firstPart tab text) < length text) where
   pub tab-in-number : (most : ℕ) → number most text ≡ none
-  tab-in-number most = ap (number most) (separated tab text more) ∙ foreign-in-number most (firstPart tab text) tab _ refl
+  tab-in-number most = separator-in-number tab most refl text more
 
   pub tab-in-bytes : bytes text ≡ none
   tab-in-bytes = ap bytes (separated tab text more) ∙ foreign-in-bytes (firstPart tab text) tab _ refl
@@ -106,33 +107,72 @@ module _ (count : ℕ) (call : List (List ℕ) → Option Call) (front : List (L
       ap (λ ps. ifCount count call (front ++ ps)) (one-part tab rest (omega (arith, all, ap length cut, first-length tab rest)))
       ∙ unless-count count call (front ++ (rest ∷ [])) (λ e. omega (arith, e, few, length-append front (rest ∷ [])))
 
--- A form of a word and two fields, of which the last refuses a tab.
-module _ (call : List (List ℕ) → Option Call) (word : List ℕ)
-    (refuses : (x y : List ℕ) → length (firstPart tab y) < length y → call (word ∷ x ∷ y ∷ []) ≡ none)
-    (rest first : List ℕ) (cut : first ≡ firstPart tab rest) where
-  two-fields : (last : List ℕ) → length first < length rest → last ≡ drop (suc (length first)) rest
-      → call (word ∷ first ∷ last ∷ []) ≡ ifCount 3 call (word ∷ parts tab rest)
-  two-fields last more behind =
-      last-field 3 call (word ∷ first ∷ []) last refl (refuses first last)
-      ∙ ap (λ l. ifCount 3 call (word ∷ first ∷ parts tab l)) behind
-      ∙ one-more 3 call (word ∷ []) rest first cut more
+-- A form of a word, a time and a last field that refuses a tab.
+pub record Timed (word : List ℕ) (call : List (List ℕ) → Option Call) (at : Time → List ℕ → Option Call) : Type 0 where
+  reads : (x y : List ℕ) → call (word ∷ x ∷ y ∷ []) ≡ (time x then λ t. at t y)
+  refuses : (t : Time) (y : List ℕ) → length (firstPart tab y) < length y → at t y ≡ none
 
-  one-field : length rest ≤ length first → ifCount 3 call (word ∷ parts tab rest) ≡ none
-  one-field all = too-few 3 call (word ∷ []) rest first cut all (omega arith)
+pub tick-timed : Timed tickWord tickCall tickAt
+tick-timed = record { reads = λ x y. refl; refuses = λ t y more. rw (tab-in-number y more largestDraw) }
 
-no-draw : (x y : List ℕ) → number largestDraw y ≡ none → tickCall (tickWord ∷ x ∷ y ∷ []) ≡ none
-no-draw x y e = then-none (time x) _ (λ t. rw e)
+pub drop-timed : Timed dropWord dropCall dropAt
+drop-timed = record { reads = λ x y. refl; refuses = λ t y more. rw (tab-in-number y more largest) }
 
-no-slot : (x y : List ℕ) → number largest y ≡ none → dropCall (dropWord ∷ x ∷ y ∷ []) ≡ none
-no-slot x y e = then-none (time x) _ (λ t. rw e)
+pub packet-timed : Timed packetWord packetCall packetAt
+packet-timed = record { reads = λ x y. refl; refuses = λ t y more. rw (tab-in-bytes y more) }
 
-no-bytes : (x y : List ℕ) → bytes y ≡ none → packetCall (packetWord ∷ x ∷ y ∷ []) ≡ none
-no-bytes x y e = then-none (time x) _ (λ t. rw e)
+-- Its first field read as a number, up to `end` if it is one.
+module _ {word : List ℕ} {call : List (List ℕ) → Option Call} {at : Time → List ℕ → Option Call} (form : Timed word call at) (rest : List ℕ) where
+  abbrev whole : Option Call
+  whole = ifCount 3 call (word ∷ parts tab rest)
 
+  alone : length rest ≤ length (firstPart tab rest) → whole ≡ none
+  alone all = too-few 3 call (word ∷ []) rest (firstPart tab rest) refl all (omega arith)
+
+  split : length (firstPart tab rest) < length rest
+      → whole ≡ (time (firstPart tab rest) then λ t. at t (drop (suc (length (firstPart tab rest))) rest))
+  split more =
+      sym
+      (last-field 3 call (word ∷ first ∷ []) last refl (λ m. form .reads first last ∙ then-none (time first) _ (λ t. form .refuses t last m))
+      ∙ one-more 3 call (word ∷ []) rest first refl more)
+      ∙ form .reads first last
+    where
+      first : List ℕ
+      first = firstPart tab rest
+
+      last : List ℕ
+      last = drop (suc (length first)) rest
+
+  module _ (r : Reading) (told : readingOf r ≡ number largest (firstPart tab rest)) where
+    pub no-time : r ≡ Reading.Malformed → Always Command.Malformed whole
+    no-time is = none-made whole (⊎-elim (λ e. alone (omega (arith, e))) (λ more. split more ∙ rw (read-none r told is)) (eq-or-lt-of-le (first-length tab rest)))
+
+    module _ (n end : ℕ) (is : r ≡ Reading.Number n) (ends : (m : ℕ) → readingOf r ≡ some m → end ≡ length (firstPart tab rest)) where
+      pub no-tab : length rest ≤ end → Always Command.Malformed whole
+      no-tab all = none-made whole (alone (omega (arith, ends n (ap readingOf is))))
+
+      timed : end < length rest → (last : List ℕ) → last ≡ drop (suc end) rest → at (record { 0 = n }) last ≡ whole
+      timed more last behind =
+          ap (at (record { 0 = n })) (behind ∙ ap (λ k. drop (suc k) rest) place)
+          ∙ sym (split (omega (arith, place)) ∙ rw (read-some r n told is) refl)
+        where
+          place : end ≡ length (firstPart tab rest)
+          place = ends n (ap readingOf is)
+
+      module _ (more : end < length rest) (last : List ℕ) (behind : last ≡ drop (suc end) rest) (command : Command) where
+        pub at-time : Always command (at (record { 0 = n }) last) → Always command whole
+        at-time = same-call command _ _ (timed more last behind)
+
+        pub head-at-time : (head : List ℕ) → Makes command head (at (record { 0 = n }) last) → Makes command head whole
+        head-at-time head = subst (Makes command head) (timed more last behind)
+
+pub in-head : (command : Command) (call : Option Call) (head : List ℕ) → Always command call → Makes command head call
+in-head command call head made = made .always head
+
+-- `fresh` hardware.
 no-hardware : (y : List ℕ) → hardware y ≡ none → freshCall (freshWord ∷ y ∷ []) ≡ none
 no-hardware y e = rw e
 
--- `fresh` hardware.
 module _ (own : List ℕ) (r : HardwareReading) (e : hardwareOf r ≡ hardware own) where
   fresh-last : freshCall (freshWord ∷ own ∷ []) ≡ ifCount 2 freshCall (freshWord ∷ parts tab own)
   fresh-last = last-field 2 freshCall (freshWord ∷ []) own refl (λ more. no-hardware own (tab-in-hardware own more))
@@ -151,65 +191,27 @@ cut-bytes : (t : Time) (frame : Option (List ℕ))
 cut-bytes t none = refl
 cut-bytes t (some frame) = refl
 
--- The forms of two fields: read, and split off the line.
-module _ (first last : List ℕ) where
-  pub tick-no-time : number largest first ≡ none → Always Command.Malformed (tickCall (tickWord ∷ first ∷ last ∷ []))
-  tick-no-time t = none-made _ (rw t)
+-- The last field, read.
+module _ (t : Time) (last : List ℕ) where
+  pub tick-no-draw : number largestDraw last ≡ none → Always Command.Malformed (tickAt t last)
+  tick-no-draw d = none-made _ (rw d)
 
-  pub tick-no-draw : number largestDraw last ≡ none → Always Command.Malformed (tickCall (tickWord ∷ first ∷ last ∷ []))
-  tick-no-draw d = none-made _ (no-draw first last d)
+  pub tick-made : (draw narrow : ℕ) → number largestDraw last ≡ some draw → narrow ≡ draw → Always (Command.Tick t narrow) (tickAt t last)
+  tick-made draw narrow d e = record { always = λ head. record { makes = rw (d, e) } }
 
-  pub tick-made : (ms draw narrow : ℕ) → number largest first ≡ some ms → number largestDraw last ≡ some draw → narrow ≡ draw
-      → Always (Command.Tick (record { 0 = ms }) narrow) (tickCall (tickWord ∷ first ∷ last ∷ []))
-  tick-made ms draw narrow t d e = record { always = λ head. record { makes = rw (t, d, e) } }
+  pub drop-no-slot : number largest last ≡ none → Always Command.Malformed (dropAt t last)
+  drop-no-slot d = none-made _ (rw d)
 
-  pub drop-no-time : number largest first ≡ none → Always Command.Malformed (dropCall (dropWord ∷ first ∷ last ∷ []))
-  drop-no-time t = none-made _ (rw t)
-
-  pub drop-no-slot : number largest last ≡ none → Always Command.Malformed (dropCall (dropWord ∷ first ∷ last ∷ []))
-  drop-no-slot d = none-made _ (no-slot first last d)
-
-  pub drop-made : (ms slot : ℕ) → number largest first ≡ some ms → number largest last ≡ some slot
-      → Always (Command.Drop (record { 0 = ms }) slot) (dropCall (dropWord ∷ first ∷ last ∷ []))
-  drop-made ms slot t d = record { always = λ head. record { makes = rw (t, d) } }
-
-  pub packet-no-time : (head : List ℕ) → number largest first ≡ none → Makes Command.Malformed head (packetCall (packetWord ∷ first ∷ last ∷ []))
-  packet-no-time head t = record { makes = rw t }
+  pub drop-made : (slot : ℕ) → number largest last ≡ some slot → Always (Command.Drop t slot) (dropAt t last)
+  drop-made slot d = record { always = λ head. record { makes = rw d } }
 
   module _ (r : BytesReading) (head : List ℕ) (e : headOf r head ≡ Option·map (take 28) (bytes last)) where
-    pub packet-no-bytes : r ≡ BytesReading.Malformed → Makes Command.Malformed head (packetCall (packetWord ∷ first ∷ last ∷ []))
+    pub packet-no-bytes : r ≡ BytesReading.Malformed → Makes Command.Malformed head (packetAt t last)
     packet-no-bytes m =
-        none-made _ (no-bytes first last (map-eq-none-iff (take 28) (bytes last) .0 (sym e ∙ ap (λ q. headOf q head) m))) .always head
+        record { makes = rw (map-eq-none-iff (take 28) (bytes last) .0 (sym e ∙ ap (λ q. headOf q head) m)) }
 
-    pub packet-made : (ms count : ℕ) → number largest first ≡ some ms → r ≡ BytesReading.Bytes count
-        → Makes (Command.Packet (record { 0 = ms }) count) head (packetCall (packetWord ∷ first ∷ last ∷ []))
-    packet-made ms count t m =
+    pub packet-made : (count : ℕ) → r ≡ BytesReading.Bytes count → Makes (Command.Packet t count) head (packetAt t last)
+    packet-made count m =
         record {
-          makes =
-              ap (Option·map (λ h. Calls.packet (record { 0 = ms }) h lentBuffer)) (sym (ap (λ q. headOf q head) m) ∙ e)
-              ∙ cut-bytes (record { 0 = ms }) (bytes last)
-              ∙ sym (rw t refl);
+          makes = ap (Option·map (λ h. Calls.packet t h lentBuffer)) (sym (ap (λ q. headOf q head) m) ∙ e) ∙ cut-bytes t (bytes last);
         }
-
-module _ (rest first : List ℕ) (cut : first ≡ firstPart tab rest) where
-  module _ (command : Command) (last : List ℕ) (more : length first < length rest) (behind : last ≡ drop (suc (length first)) rest) where
-    pub tick-split : Always command (tickCall (tickWord ∷ first ∷ last ∷ [])) → Always command (ifCount 3 tickCall (tickWord ∷ parts tab rest))
-    tick-split = same-call command _ _ (two-fields tickCall tickWord (λ x y m. no-draw x y (tab-in-number y m largestDraw)) rest first cut last more behind)
-
-    pub drop-split : Always command (dropCall (dropWord ∷ first ∷ last ∷ [])) → Always command (ifCount 3 dropCall (dropWord ∷ parts tab rest))
-    drop-split = same-call command _ _ (two-fields dropCall dropWord (λ x y m. no-slot x y (tab-in-number y m largest)) rest first cut last more behind)
-
-    pub packet-split : (head : List ℕ) → Makes command head (packetCall (packetWord ∷ first ∷ last ∷ []))
-        → Makes command head (ifCount 3 packetCall (packetWord ∷ parts tab rest))
-    packet-split head =
-        subst (Makes command head) (two-fields packetCall packetWord (λ x y m. no-bytes x y (tab-in-bytes y m)) rest first cut last more behind)
-
-  module _ (all : length rest ≤ length first) where
-    pub tick-alone : Always Command.Malformed (ifCount 3 tickCall (tickWord ∷ parts tab rest))
-    tick-alone = none-made _ (one-field tickCall tickWord (λ x y m. no-draw x y (tab-in-number y m largestDraw)) rest first cut all)
-
-    pub drop-alone : Always Command.Malformed (ifCount 3 dropCall (dropWord ∷ parts tab rest))
-    drop-alone = none-made _ (one-field dropCall dropWord (λ x y m. no-slot x y (tab-in-number y m largest)) rest first cut all)
-
-    pub packet-alone : (head : List ℕ) → Makes Command.Malformed head (ifCount 3 packetCall (packetWord ∷ parts tab rest))
-    packet-alone head = none-made _ (one-field packetCall packetWord (λ x y m. no-bytes x y (tab-in-bytes y m)) rest first cut all) .always head

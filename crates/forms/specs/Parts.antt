@@ -6,6 +6,7 @@ use mathlib.Core.List.{List}
 use mathlib.Core.Option.{Option, none, some, Option·map}
 use lib.Dec.{eqb}
 use lib.ListN.{length, take}
+use Rattle.rules.specs.declared.Time.{Time}
 use Rattle.machine.specs.Calls as Calls
 use Rattle.machine.specs.Calls.{Call}
 use Rattle.lines.specs.Fields.{_then_}
@@ -31,6 +32,16 @@ headed (Calls.tick t draw out) = Calls.tick t draw out
 headed (Calls.packet t frame out) = Calls.packet t (take 28 frame) out
 headed (Calls.drop t slot) = Calls.drop t slot
 
+-- What a time and the last field make.
+abbrev pub tickAt : Time → List ℕ → Option Call
+tickAt t last = number largestDraw last then λ draw. some (Calls.tick t draw lentBuffer)
+
+abbrev pub packetAt : Time → List ℕ → Option Call
+packetAt t last = bytes last then λ frame. some (Calls.packet t frame lentBuffer)
+
+abbrev pub dropAt : Time → List ℕ → Option Call
+dropAt t last = number largest last then λ slot. some (Calls.drop t slot)
+
 -- Each form's call, from all its fields.
 abbrev pub freshCall : List (List ℕ) → Option Call
 freshCall fields = hardware (field 1 fields) then λ own. some (Calls.fresh own)
@@ -44,13 +55,13 @@ askCall fields =
     some (Calls.ask t wanted policy draw)
 
 abbrev pub tickCall : List (List ℕ) → Option Call
-tickCall fields = time (field 1 fields) then λ t. number largestDraw (field 2 fields) then λ draw. some (Calls.tick t draw lentBuffer)
+tickCall fields = time (field 1 fields) then λ t. tickAt t (field 2 fields)
 
 abbrev pub packetCall : List (List ℕ) → Option Call
-packetCall fields = time (field 1 fields) then λ t. bytes (field 2 fields) then λ frame. some (Calls.packet t frame lentBuffer)
+packetCall fields = time (field 1 fields) then λ t. packetAt t (field 2 fields)
 
 abbrev pub dropCall : List (List ℕ) → Option Call
-dropCall fields = time (field 1 fields) then λ t. number largest (field 2 fields) then λ slot. some (Calls.drop t slot)
+dropCall fields = time (field 1 fields) then λ t. dropAt t (field 2 fields)
 
 -- A form's call if there are so many fields.
 abbrev pub ifCount : ℕ → (List (List ℕ) → Option Call) → List (List ℕ) → Option Call

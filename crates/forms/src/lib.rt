@@ -9,11 +9,11 @@ use rules::Ipv4Address;
 use rules::Time;
 ghost use Prim.Native.Nat.{_≤_};
 ghost use mathlib.Core.Path.{_≡_};
-ghost use mathlib.Core.List.{[], _∷_};
+ghost use mathlib.Core.List.{_∷_};
 ghost use Rattle.lines.specs.Fields.{tab, parts};
 ghost use Rattle.lines.specs.Numbers.{largestDraw};
 ghost use Rattle.lines.specs.Forms.{freshWord, tickWord, packetWord, dropWord};
-ghost use Rattle.forms.specs.Parts.{Makes, Always, ifCount, freshCall, tickCall, packetCall, dropCall};
+ghost use Rattle.forms.specs.Parts.{Makes, Always, ifCount, freshCall, tickCall, tickAt, packetCall, packetAt, dropCall, dropAt};
 
 pub const TAB: u8 = b'\t';
 
@@ -65,17 +65,14 @@ pub fn narrow(draw: u64) -> u32
 }
 
 // `tick` time draw.
-fn tick_fields(first: &[u8], last: &[u8]) -> Command
-    ensures { λ r. ⌜ Always r (tickCall (tickWord ∷ now (first .entry) ∷ now (last .entry) ∷ [])) ⌝ }
+fn tick_at(time: Time, last: &[u8]) -> Command
+    ensures { λ r. ⌜ Always r (tickAt time (now (last .entry))) ⌝ }
 {
-    match numerals::number(first, LARGEST) {
+    match numerals::number(last, LARGEST_DRAW) {
         Reading::Malformed => Command::Malformed,
-        Reading::Number(time) => match numerals::number(last, LARGEST_DRAW) {
-            Reading::Malformed => Command::Malformed,
-            Reading::Number(draw) => Command::Tick {
-                time: Time(time),
-                draw: narrow(draw),
-            },
+        Reading::Number(draw) => Command::Tick {
+            time,
+            draw: narrow(draw),
         },
     }
 }
@@ -83,67 +80,73 @@ fn tick_fields(first: &[u8], last: &[u8]) -> Command
 pub fn tick(rest: &[u8]) -> Command
     ensures { λ r. ⌜ Always r (ifCount 3 tickCall (tickWord ∷ parts tab (now (rest .entry)))) ⌝ }
 {
-    let first = fields::part(rest, TAB);
-    let end = first.len();
-    if end < rest.len() {
-        tick_fields(first, fields::behind(rest, end))
-    } else {
-        Command::Malformed
+    let first = numerals::first_number(rest, TAB, LARGEST);
+    let end = first.length;
+    let reading = first.reading;
+    match reading {
+        Reading::Malformed => Command::Malformed,
+        Reading::Number(time) => {
+            if end < rest.len() {
+                tick_at(Time(time), fields::behind(rest, end))
+            } else {
+                Command::Malformed
+            }
+        },
     }
 }
 
 // `drop` time slot.
-fn drop_fields(first: &[u8], last: &[u8]) -> Command
-    ensures { λ r. ⌜ Always r (dropCall (dropWord ∷ now (first .entry) ∷ now (last .entry) ∷ [])) ⌝ }
+fn drop_at(time: Time, last: &[u8]) -> Command
+    ensures { λ r. ⌜ Always r (dropAt time (now (last .entry))) ⌝ }
 {
-    match numerals::number(first, LARGEST) {
+    match numerals::number(last, LARGEST) {
         Reading::Malformed => Command::Malformed,
-        Reading::Number(time) => match numerals::number(last, LARGEST) {
-            Reading::Malformed => Command::Malformed,
-            Reading::Number(slot) => Command::Drop {
-                time: Time(time),
-                slot,
-            },
-        },
+        Reading::Number(slot) => Command::Drop { time, slot },
     }
 }
 
 pub fn drop(rest: &[u8]) -> Command
     ensures { λ r. ⌜ Always r (ifCount 3 dropCall (dropWord ∷ parts tab (now (rest .entry)))) ⌝ }
 {
-    let first = fields::part(rest, TAB);
-    let end = first.len();
-    if end < rest.len() {
-        drop_fields(first, fields::behind(rest, end))
-    } else {
-        Command::Malformed
+    let first = numerals::first_number(rest, TAB, LARGEST);
+    let end = first.length;
+    let reading = first.reading;
+    match reading {
+        Reading::Malformed => Command::Malformed,
+        Reading::Number(time) => {
+            if end < rest.len() {
+                drop_at(Time(time), fields::behind(rest, end))
+            } else {
+                Command::Malformed
+            }
+        },
     }
 }
 
 // `packet` time bytes.
-fn packet_fields(first: &[u8], last: &[u8], head: &mut [u8; 28]) -> Command
-    ensures { λ r. ⌜ Makes r (now (head .exit)) (packetCall (packetWord ∷ now (first .entry) ∷ now (last .entry) ∷ [])) ⌝ }
+fn packet_at(time: Time, last: &[u8], head: &mut [u8; 28]) -> Command
+    ensures { λ r. ⌜ Makes r (now (head .exit)) (packetAt time (now (last .entry))) ⌝ }
 {
-    match numerals::number(first, LARGEST) {
-        Reading::Malformed => Command::Malformed,
-        Reading::Number(time) => match hex::bytes(last, head) {
-            BytesReading::Malformed => Command::Malformed,
-            BytesReading::Bytes(count) => Command::Packet {
-                time: Time(time),
-                count,
-            },
-        },
+    match hex::bytes(last, head) {
+        BytesReading::Malformed => Command::Malformed,
+        BytesReading::Bytes(count) => Command::Packet { time, count },
     }
 }
 
 pub fn packet(rest: &[u8], head: &mut [u8; 28]) -> Command
     ensures { λ r. ⌜ Makes r (now (head .exit)) (ifCount 3 packetCall (packetWord ∷ parts tab (now (rest .entry)))) ⌝ }
 {
-    let first = fields::part(rest, TAB);
-    let time_end = first.len();
-    if time_end < rest.len() {
-        packet_fields(first, fields::behind(rest, time_end), head)
-    } else {
-        Command::Malformed
+    let first = numerals::first_number(rest, TAB, LARGEST);
+    let time_end = first.length;
+    let reading = first.reading;
+    match reading {
+        Reading::Malformed => Command::Malformed,
+        Reading::Number(time) => {
+            if time_end < rest.len() {
+                packet_at(Time(time), fields::behind(rest, time_end), head)
+            } else {
+                Command::Malformed
+            }
+        },
     }
 }

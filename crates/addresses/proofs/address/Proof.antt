@@ -21,14 +21,14 @@ abbrev μ-loop : tie.MeasureT-loop
 loop-holds : tie.Need-loop-holds Inv-loop μ-loop
 loop-holds c = search (begins, needs)
 
+with-octet-requires : tie.Need-with-octet-requires Inv-loop μ-loop
+with-octet-requires c κs = search (value-fits, needs)
+
 returns : tie.Need-returns Inv-loop μ-loop
 returns c = search (to-end, part-malformed, needs)
 
 returns-2 : tie.Need-returns-2 Inv-loop μ-loop
 returns-2 c = search (to-end, part-last, needs)
-
-with-octet-requires : tie.Need-with-octet-requires Inv-loop μ-loop
-with-octet-requires c κs = search (value-fits, needs)
 
 add-start : tie.Need-add-start Inv-loop μ-loop
 add-start c = search (next-start, needs)
@@ -61,7 +61,6 @@ address-spec =
     (λ c. search needs)
     (λ c. search needs)
     (λ c. search needs)
-    (λ c κs. search needs)
     (λ c κs. search needs)
     (λ c. search needs)
     (λ c. search needs)

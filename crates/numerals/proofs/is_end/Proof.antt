@@ -1,0 +1,14 @@
+-- `numerals::is_end`: a byte there, or none.
+use borrow.Author.Needs.{needs}
+use Rattle.numerals.proofs.Scan.{byte-end, text-end}
+use Rattle.numerals.proofs.is_end.Statement.{statement}
+use Rattle.numerals.proofs.is_end.Tie as tie
+
+returns : tie.Need-returns
+returns c = search byte-end
+
+returns-2 : tie.Need-returns-2
+returns-2 c = search text-end
+
+pub is-end-spec : {M : Type 1} → statement M
+is-end-spec = tie.close (tie.spec (λ c. search needs) returns returns-2)

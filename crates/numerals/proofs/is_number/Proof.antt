@@ -1,0 +1,14 @@
+-- `numerals::is_number`.
+use borrow.Author.Needs.{needs}
+use Rattle.numerals.proofs.Scan.{too-large, small-enough}
+use Rattle.numerals.proofs.is_number.Statement.{statement}
+use Rattle.numerals.proofs.is_number.Tie as tie
+
+returns : tie.Need-returns
+returns c = search too-large
+
+returns-2 : tie.Need-returns-2
+returns-2 c = search small-enough
+
+pub is-number-spec : {M : Type 1} → statement M
+is-number-spec = tie.close (tie.spec (λ c κs. search needs) returns returns-2)
