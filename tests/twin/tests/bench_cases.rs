@@ -89,6 +89,24 @@ fn w9_the_eleventh_claim_waits() {
     );
 }
 
+/// W9 from its history: ten asks, each lost to another's probe.
+#[test]
+fn w9_from_ten_conflicts() {
+    let probe = frame_text(1, OTHER_TEXT, 0, SEVEN.0);
+    let mut lines = vec![format!("fresh_{OWN_TEXT}")];
+    for time in (91_000..=100_000).step_by(1_000) {
+        lines.push(format!("ask_{time}_192.0.2.7_1_0"));
+        lines.push(packet(time + 1, &probe));
+    }
+    lines.push("ask_159999_192.0.2.7_1_0".into());
+    lines.push("ask_160000_192.0.2.7_1_0".into());
+    let text: String = lines.iter().map(|line| tabbed(line) + "\n").collect();
+    let output = String::from_utf8(replay(text.as_bytes())).unwrap();
+    let got: Vec<&str> = output.lines().collect();
+    assert!(got[2..21].iter().step_by(2).all(|got| got.contains("lost")));
+    assert_eq!(got[21..], ["refused\t12", "ok\ttaken\t0\t160000\t-"]);
+}
+
 #[test]
 fn w10_our_own_echoed_probe() {
     let mut state = holding(500, SEVEN, 2, probing(1, 1_500));

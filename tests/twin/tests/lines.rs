@@ -210,6 +210,23 @@ fn addresses_in_the_form() {
 }
 
 #[test]
+fn asks_at_the_edges_of_the_allowed_addresses() {
+    for (address, answer) in [
+        ("0.255.255.255", "refused_8"),
+        ("1.0.0.0", "ok_taken_0_0_-"),
+        ("126.255.255.255", "ok_taken_0_0_-"),
+        ("127.0.0.0", "refused_8"),
+        ("127.255.255.255", "refused_8"),
+        ("128.0.0.0", "ok_taken_0_0_-"),
+        ("223.255.255.255", "ok_taken_0_0_-"),
+        ("224.0.0.0", "refused_8"),
+    ] {
+        let ask = format!("ask_0_{address}_1_0");
+        check(&[("fresh_02000000000a", "ok_fresh_-_-_-"), (&ask, answer)]);
+    }
+}
+
+#[test]
 fn hardware_not_in_the_form() {
     not_in_form(&[
         "fresh_02000000000",

@@ -84,6 +84,21 @@ fn many_lines_over_many_buffers() {
 }
 
 /// A line of `left` bytes with no end, then what follows.
+#[test]
+fn lines_of_many_lengths_over_many_buffers() {
+    let mut input = Vec::new();
+    let mut count = 0;
+    for len in (0..5_761).step_by(13) {
+        input.extend(std::iter::repeat_n(b'x', len));
+        input.extend(b"\nfresh\t02000000000a\n");
+        count += 1;
+    }
+    let expected = b"refused\t14\nok\tfresh\t-\t-\t-\n".repeat(count);
+    for size in [7, 4_096, 4_097, 65_535] {
+        assert_eq!(in_pieces(&input, size), expected, "pieces of {size}");
+    }
+}
+
 fn long_line(len: u64, rest: &[u8]) -> impl Read {
     io::repeat(b'7').take(len).chain(rest)
 }
