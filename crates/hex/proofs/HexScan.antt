@@ -1,7 +1,7 @@
 -- `hexBytes` of the crate lines, digit by digit and byte by byte: which texts have bytes, and which bytes these are.
 use Prim.Native.Nat.{ℕ, zero, suc, _+_, _-_, _*_, _/_, _%_, _≤_, _<_}
 use mathlib.Core.Path.{_≡_, refl, ap}
-use mathlib.Core.List.{List, [], _∷_, _++_}
+use mathlib.Core.List.{List, [], _∷_}
 use mathlib.Core.Bool.{Bool, true, false, cond, _&&_, _||_, and-false, and-assoc}
 use mathlib.Core.Option.{Option, some}
 use native.Mathlib.Omega.{arith}
@@ -12,7 +12,8 @@ use borrow.Author.Tests.{leb-true, le-leb, lt-leb}
 use Rattle.rules.proofs.BytesLaws.{and-both}
 use Rattle.lines.specs.Fields.{only, _then_}
 use Rattle.lines.specs.Numbers.{isDigit, hexDigit, hexBytes}
-use Rattle.hex.specs.Parts.{isLetter, isHex, areHex, valueOf, pairs}
+use Rattle.hex_digits.specs.Parts.{isLetter, isHex, areHex}
+use Rattle.hex.specs.Parts.{valueOf, pairs}
 
 -- A digit is what is hex, with its value.
 digit-value : (b : ℕ) → isDigit b ≡ true → b - 48 ≡ valueOf b
@@ -60,12 +61,6 @@ scanned (high ∷ low ∷ text) =
     rw (even-pair, and-assoc, and-assoc)
     (pair-only (isHex high) (isHex low) (areHex text && eqb (length text % 2) 0) (valueOf high) (valueOf low) (pairs text)
     (digit-only high) (digit-only low) (scanned text))
-
--- Two runs of digits, one behind the other.
-pub hex-both : (first second : List ℕ) → areHex (first ++ second) ≡ (areHex first && areHex second)
-unfolding areHex
-hex-both [] second = refl
-hex-both (b ∷ first) second = rw (hex-both first second, and-assoc)
 
 -- How many bytes there are, and each of them.
 pub length-pairs : (text : List ℕ) → length (pairs text) ≡ length text / 2

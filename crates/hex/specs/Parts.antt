@@ -1,13 +1,12 @@
--- What the answers of src/ stand for, and what its inner functions promise one another: whether all of a text is hex, and its bytes
--- if it is. What is hex says the crate lines.
+-- What the answers of src/ stand for, and what its inner functions promise one another: the bytes of a text that is hex. What is hex
+-- says the crate lines.
 use Prim.Native.Nat.{ℕ, _+_, _*_, _%_}
-use mathlib.Core.Bool.{Bool, true, cond, _&&_, _||_}
+use mathlib.Core.Bool.{cond}
 use mathlib.Core.List.{List, [], _∷_}
 use mathlib.Core.Option.{Option, none, some}
 use lib.Dec.{leb}
 use lib.ListN.{take}
 use Rattle.rules.specs.declared.HardwareAddress.{HardwareAddress}
-use Rattle.lines.specs.Numbers.{isDigit}
 use Rattle.hex.specs.declared.HardwareReading.{HardwareReading}
 use Rattle.hex.specs.declared.HardwareReading.the-variants as hardware
 use Rattle.hex.specs.declared.BytesReading.{BytesReading}
@@ -21,16 +20,6 @@ hardwareOf (hardware.Hardware h) = some h
 abbrev pub headOf : BytesReading → List ℕ → Option (List ℕ)
 headOf bytes.Malformed head = none
 headOf (bytes.Bytes n) head = some (take n head)
-
-abbrev pub isLetter : ℕ → Bool
-isLetter b = leb 97 b && leb b 102
-
-abbrev pub isHex : ℕ → Bool
-isHex b = isDigit b || isLetter b
-
-unfoldable pub areHex : List ℕ → Bool
-areHex [] = true
-areHex (b ∷ text) = isHex b && areHex text
 
 -- A digit's value: its last four bits, and 9 more for a letter. Proved to be the one of `hexDigit` where there is one: `digit-only` in
 -- proofs/HexScan.antt. Any other byte has some value too, but no text with such a byte has bytes.

@@ -1,12 +1,12 @@
--- `hex::run_is_hex`: the loop has seen so many digits.
+-- `hex_digits::run_is_hex`: the loop has seen so many digits.
 use Prim.Native.Nat.{_-_, _≤_}
 use mathlib.Core.Path.{_≡_}
 use lib.ListN.{take, drop}
 use borrow.Author.Needs.{needs}
-use Rattle.hex.specs.Parts.{areHex}
-use Rattle.hex.proofs.Laws.{run-again, run-done}
-use Rattle.hex.proofs.run_is_hex.Statement.{statement}
-use Rattle.hex.proofs.run_is_hex.Tie as tie
+use Rattle.hex_digits.specs.Parts.{areHex}
+use Rattle.hex_digits.proofs.Laws.{run-again, run-done}
+use Rattle.hex_digits.proofs.run_is_hex.Statement.{statement}
+use Rattle.hex_digits.proofs.run_is_hex.Tie as tie
 
 abbrev Inv-loop : tie.InvT-loop
 Inv-loop text start count all₀ seen₀ all seen = (seen ≤ count) × (all ≡ areHex (take seen (drop start text)))

@@ -1,9 +1,9 @@
--- `hex::are_hex`: one run, or several.
+-- `hex_digits::are_hex`: one run, or several.
 use mathlib.Core.Path.{_∙_}
 use borrow.Author.Needs.{needs}
-use Rattle.hex.proofs.Laws.{run-whole}
-use Rattle.hex.proofs.are_hex.Statement.{statement}
-use Rattle.hex.proofs.are_hex.Tie as tie
+use Rattle.hex_digits.proofs.Laws.{run-whole}
+use Rattle.hex_digits.proofs.are_hex.Statement.{statement}
+use Rattle.hex_digits.proofs.are_hex.Tie as tie
 
 returns : tie.Need-returns
 returns c = c .run-is-hex .ensures ∙ run-whole _

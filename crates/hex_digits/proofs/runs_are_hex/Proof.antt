@@ -1,12 +1,12 @@
--- `hex::runs_are_hex`: the loop has seen the digits before `at`.
+-- `hex_digits::runs_are_hex`: the loop has seen the digits before `at`.
 use Prim.Native.Nat.{_-_}
 use mathlib.Core.Path.{_≡_}
 use lib.ListN.{take}
 use borrow.Author.Needs.{needs}
-use Rattle.hex.specs.Parts.{areHex}
-use Rattle.hex.proofs.Laws.{runs-again, runs-done}
-use Rattle.hex.proofs.runs_are_hex.Statement.{statement}
-use Rattle.hex.proofs.runs_are_hex.Tie as tie
+use Rattle.hex_digits.specs.Parts.{areHex}
+use Rattle.hex_digits.proofs.Laws.{runs-again, runs-done}
+use Rattle.hex_digits.proofs.runs_are_hex.Statement.{statement}
+use Rattle.hex_digits.proofs.runs_are_hex.Tie as tie
 
 abbrev Inv-loop : tie.InvT-loop
 Inv-loop text last all₀ at₀ all at = all ≡ areHex (take at text)

@@ -1,8 +1,8 @@
--- `hex::is_hex`: a digit from 0 to 9 or a letter.
+-- `hex_digits::is_hex`: a digit from 0 to 9 or a letter.
 use borrow.Author.Needs.{needs}
-use Rattle.hex.proofs.Laws.{hex-told}
-use Rattle.hex.proofs.is_hex.Statement.{statement}
-use Rattle.hex.proofs.is_hex.Tie as tie
+use Rattle.hex_digits.proofs.Laws.{hex-told}
+use Rattle.hex_digits.proofs.is_hex.Statement.{statement}
+use Rattle.hex_digits.proofs.is_hex.Tie as tie
 
 returns : tie.Need-returns
 returns c = search hex-told

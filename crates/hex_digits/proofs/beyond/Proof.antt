@@ -1,8 +1,8 @@
--- `hex::beyond`: within the range, or not.
+-- `hex_digits::beyond`: within the range, or not.
 use borrow.Author.Needs.{needs}
-use Rattle.hex.proofs.Laws.{in-range, out-of-range}
-use Rattle.hex.proofs.beyond.Statement.{statement}
-use Rattle.hex.proofs.beyond.Tie as tie
+use Rattle.hex_digits.proofs.Laws.{in-range, out-of-range}
+use Rattle.hex_digits.proofs.beyond.Statement.{statement}
+use Rattle.hex_digits.proofs.beyond.Tie as tie
 
 returns : tie.Need-returns
 returns c = search (in-range, needs)
