@@ -17,7 +17,7 @@ use Rattle.lines.specs.Fields.{tab, parts, firstPart, _then_}
 use Rattle.lines.specs.Forms.{time, lentBuffer, freshWord, tickWord, packetWord, dropWord}
 use Rattle.lines.proofs.FieldLaws.{first-length, one-part, more-parts, first-of-parts, separated}
 use Rattle.numerals.specs.Parts.{readingOf}
-use Rattle.numerals.proofs.Scan.{separator-in-number}
+use Rattle.numerals.proofs.Laws.{separator-in-number}
 use Rattle.numerals.specs.declared.Reading.{Reading}
 use Rattle.numerals.specs.declared.Reading.the-variants as Reading
 use Rattle.hex.specs.Parts.{hardwareOf, headOf}

@@ -59,7 +59,7 @@ value-last : (front : List ℕ) (b : ℕ) → valueAfter 0 (front ++ (b ∷ []))
 unfolding valueAfter
 value-last front b = value-append 0 front (b ∷ [])
 
-value-grows : (n : ℕ) (text : List ℕ) → n ≤ valueAfter n text
+pub value-grows : (n : ℕ) (text : List ℕ) → n ≤ valueAfter n text
 unfolding valueAfter
 value-grows n [] = omega arith
 value-grows n (b ∷ text) = omega (arith, value-grows (10 * n + (b - 48)) text)

@@ -1,2 +1,2 @@
 -- What the functions' proofs cite, here and above.
-pub mod Scan
+pub mod Laws

@@ -1,6 +1,6 @@
 -- `numerals::first_number`.
 use borrow.Author.Needs.{needs}
-use Rattle.numerals.proofs.Scan.{first-read, first-ends, first-refused, no-end}
+use Rattle.numerals.proofs.Laws.{first-read, first-ends, first-refused, no-end}
 use Rattle.numerals.proofs.first_number.Statement.{statement}
 use Rattle.numerals.proofs.first_number.Tie as tie
 

@@ -1,6 +1,6 @@
 -- `numerals::has_numeral_start`: at most one byte, or more.
 use borrow.Author.Needs.{needs}
-use Rattle.numerals.proofs.Scan.{short-start, long-start}
+use Rattle.numerals.proofs.Laws.{short-start, long-start}
 use Rattle.numerals.proofs.has_numeral_start.Statement.{statement}
 use Rattle.numerals.proofs.has_numeral_start.Tie as tie
 

@@ -1,6 +1,6 @@
 -- `numerals::is_end`: a byte there, or none.
 use borrow.Author.Needs.{needs}
-use Rattle.numerals.proofs.Scan.{byte-end, text-end}
+use Rattle.numerals.proofs.Laws.{byte-end, text-end}
 use Rattle.numerals.proofs.is_end.Statement.{statement}
 use Rattle.numerals.proofs.is_end.Tie as tie
 

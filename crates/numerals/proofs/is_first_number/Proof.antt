@@ -1,6 +1,6 @@
 -- `numerals::is_first_number`.
 use borrow.Author.Needs.{needs}
-use Rattle.numerals.proofs.Scan.{first-if-end, no-first}
+use Rattle.numerals.proofs.Laws.{first-if-end, no-first}
 use Rattle.numerals.proofs.is_first_number.Statement.{statement}
 use Rattle.numerals.proofs.is_first_number.Tie as tie
 

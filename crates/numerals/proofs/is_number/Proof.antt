@@ -1,6 +1,6 @@
 -- `numerals::is_number`.
 use borrow.Author.Needs.{needs}
-use Rattle.numerals.proofs.Scan.{too-large, small-enough}
+use Rattle.numerals.proofs.Laws.{too-large, small-enough}
 use Rattle.numerals.proofs.is_number.Statement.{statement}
 use Rattle.numerals.proofs.is_number.Tie as tie
 

@@ -1,6 +1,6 @@
 -- `numerals::number`: bytes behind the digits, or none.
 use borrow.Author.Needs.{needs}
-use Rattle.numerals.proofs.Scan.{more-read, whole-read, whole-refused}
+use Rattle.numerals.proofs.Laws.{more-read, whole-read, whole-refused}
 use Rattle.numerals.proofs.number.Statement.{statement}
 use Rattle.numerals.proofs.number.Tie as tie
 

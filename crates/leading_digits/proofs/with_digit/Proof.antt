@@ -1,8 +1,8 @@
--- `numerals::with_digit`: the test of the digit says that it fits.
+-- `leading_digits::with_digit`: the test of the digit says that it fits.
 use borrow.Author.Needs.{needs}
-use Rattle.numerals.proofs.Scan.{next-fits}
-use Rattle.numerals.proofs.with_digit.Statement.{statement}
-use Rattle.numerals.proofs.with_digit.Tie as tie
+use Rattle.leading_digits.proofs.Scan.{next-fits}
+use Rattle.leading_digits.proofs.with_digit.Statement.{statement}
+use Rattle.leading_digits.proofs.with_digit.Tie as tie
 
 mul-result : tie.Need-mul-result
 mul-result c = search (next-fits, needs)

@@ -1,8 +1,8 @@
--- `numerals::first_20`: less than 19 digits, 19 at the end, or a twentieth byte.
+-- `leading_digits::first_20`: less than 19 digits, 19 at the end, or a twentieth byte.
 use borrow.Author.Needs.{needs}
-use Rattle.numerals.proofs.Scan.{passes, read-fewer, read-ended, read-20, read-stopped}
-use Rattle.numerals.proofs.first_20.Statement.{statement}
-use Rattle.numerals.proofs.first_20.Tie as tie
+use Rattle.leading_digits.proofs.Scan.{passes, read-fewer, read-ended, read-20, read-stopped}
+use Rattle.leading_digits.proofs.first_20.Statement.{statement}
+use Rattle.leading_digits.proofs.first_20.Tie as tie
 
 with-digit-requires : tie.Need-with-digit-requires
 with-digit-requires c κs = search passes

@@ -1,8 +1,8 @@
--- `numerals::is_next_digit`: no digit, or a digit behind a value below, at or above a tenth of 2^64 - 1.
+-- `leading_digits::is_next_digit`: no digit, or a digit behind a value below, at or above a tenth of 2^64 - 1.
 use borrow.Author.Needs.{needs}
-use Rattle.numerals.proofs.Scan.{next-digit}
-use Rattle.numerals.proofs.is_next_digit.Statement.{statement}
-use Rattle.numerals.proofs.is_next_digit.Tie as tie
+use Rattle.leading_digits.proofs.Scan.{next-digit}
+use Rattle.leading_digits.proofs.is_next_digit.Statement.{statement}
+use Rattle.leading_digits.proofs.is_next_digit.Tie as tie
 
 returns : tie.Need-returns
 returns c = search next-digit

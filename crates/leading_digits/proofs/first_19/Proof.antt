@@ -1,10 +1,10 @@
--- `numerals::first_19`: the bytes before `i` are digits that stand for the value.
+-- `leading_digits::first_19`: the bytes before `i` are digits that stand for the value.
 use Prim.Native.Nat.{_-_, _≤_}
 use borrow.Author.Needs.{needs}
-use Rattle.numerals.specs.Parts.{Begins}
-use Rattle.numerals.proofs.Scan.{begins-none, room, goes-on-19, stops-19, read-19}
-use Rattle.numerals.proofs.first_19.Statement.{statement}
-use Rattle.numerals.proofs.first_19.Tie as tie
+use Rattle.leading_digits.specs.Parts.{Begins}
+use Rattle.leading_digits.proofs.Scan.{begins-none, room, goes-on-19, stops-19, read-19}
+use Rattle.leading_digits.proofs.first_19.Statement.{statement}
+use Rattle.leading_digits.proofs.first_19.Tie as tie
 
 abbrev Inv-loop : tie.InvT-loop
 Inv-loop text most value₀ i₀ value i = (i ≤ most) × Begins text value i
