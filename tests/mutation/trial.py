@@ -1,0 +1,131 @@
+"""Runs the programs with a mutant, built without proof, and compares what they write."""
+import filecmp
+import hashlib
+import resource
+import shutil
+import subprocess
+import tempfile
+from pathlib import Path
+
+from kit import run
+
+BUILD_SECONDS, RUN_SECONDS = 60, 20
+
+
+class Trial:
+    def __init__(self, repository):
+        self.repository, self.kit = repository, repository.kit
+        self.tools = repository.work / "toolchain"
+        self.caught = repository.work / "caught"
+        self._make_tools()
+        self.plain = {}
+
+    def _make_tools(self):
+        """A toolchain whose compiler keeps the first module that it is given, compiled as `rt check` does, and then stops."""
+        shutil.rmtree(self.tools, ignore_errors=True)
+        (self.tools / "bin").mkdir(parents=True)
+        (self.tools / "lib").symlink_to((self.kit.tools / "lib").resolve())
+        for name in ("ld.lld", "llvm-ar"):
+            (self.tools / "bin" / name).symlink_to(self.kit.tools / "bin" / name)
+        script = self.tools / "bin" / "clang"
+        script.write_text(f"""#!/bin/sh
+set -e
+for word; do shift; case $word in -O0) set -- "$@" -O3 -Xclang -fmerge-functions -mllvm -mergefunc-use-aliases ;; *) set -- "$@" "$word" ;; esac; done
+"{self.kit.tools}/bin/clang" "$@"
+cp module.bc module.o "{self.caught}/"
+exit 1
+""")
+        script.chmod(0o755)
+
+    def build(self, program, edited, file):
+        """The program with one crate's root file replaced: its module's and its code's sums, or None where there is none."""
+        shutil.rmtree(self.caught, ignore_errors=True)
+        self.caught.mkdir()
+        root = file if edited == program else self.repository.root_file(program)
+        words = [self.kit.command("rattle-cases"), "--toolchain", str(self.tools), str(root), "--crate-name", program,
+                 "--lib", f"std={self.kit.home}/libs/std/src/lib.rt"]
+        for d in self.repository.reached(program):
+            source = file if d == edited else self._library(d)
+            words += ["--lib", f"{d}={source}"]
+        run(words, BUILD_SECONDS, stdin=subprocess.DEVNULL)
+        if not (self.caught / "module.o").exists():
+            return None
+        return tuple(hashlib.sha256((self.caught / part).read_bytes()).hexdigest() for part in ("module.bc", "module.o"))
+
+    def _library(self, name):
+        if name in self.repository.deps:
+            return self.repository.root_file(name)
+        return self.kit.home / "libs" / name / "src" / "lib.rt"
+
+    def run(self, program):
+        """Whether the program last built writes what its file has."""
+        with tempfile.TemporaryDirectory() as room:
+            binary = Path(room) / "program"
+            words = [self.kit.command("rattle-link"), "--target", "x86_64-unknown-linux-gnu", "--toolchain", str(self.kit.tools),
+                     "-o", str(binary), str(self.caught / "module.o")]
+            if "os" in self.repository.reached(program):
+                words.append(str(self.kit.home / "lib" / "libos_c.a"))
+            status, said = run(words, BUILD_SECONDS)
+            if status != 0:
+                raise SystemExit(f"mutation: {program} was not linked: {said}")
+            return self._writes(program, binary, Path(room))
+
+    def _writes(self, program, binary, room):
+        folder = self.repository.folder(program)
+        data = room / "data"
+        if (folder / "data").exists():
+            shutil.copytree(folder / "data", data)
+        else:
+            data.mkdir()
+        args = (folder / "args").read_text().splitlines() if (folder / "args").exists() else []
+        stdin = folder / "stdin" if (folder / "stdin").exists() else Path("/dev/null")
+        loader = [str(self.kit.tools / "lib" / "ld-linux-x86-64.so.2"), "--library-path", str(self.kit.tools / "lib")]
+        with open(stdin, "rb") as read, open(room / "wrote", "wb") as write:
+            try:
+                done = subprocess.run([*loader, str(binary), *args], stdin=read, stdout=write, stderr=subprocess.DEVNULL,
+                                      timeout=RUN_SECONDS, cwd=data, preexec_fn=limit)
+            except subprocess.TimeoutExpired:
+                return False
+        return done.returncode == 0 and filecmp.cmp(room / "wrote", folder / "stdout", shallow=False)
+
+    def plain_sums(self, program):
+        if program not in self.plain:
+            self.plain[program] = self.build(program, None, None)
+            if not self.plain[program] or not self.run(program):
+                raise SystemExit(f"mutation: {program} does not write what its file stdout has, with no edit")
+        return self.plain[program]
+
+    def verdict(self, mutant, file):
+        """`seen` by a program's run, `same code` once compiled, or `survives`; and why."""
+        programs = [p for p in self.repository.programs() if mutant.crate in (p, *self.repository.reached(p))]
+        has_it = compiled_same = False
+        for program in programs:
+            plain = self.plain_sums(program)
+            sums = self.build(program, mutant.crate, file)
+            if sums is None:
+                return "seen", f"{program} is not built, or does not end on an empty input"
+            if sums[0] == plain[0]:
+                continue
+            has_it = True
+            if sums[1] == plain[1]:
+                compiled_same = True
+            elif not self.run(program):
+                return "seen", f"{program} writes something else"
+            else:
+                return self._rest(mutant, file, programs[programs.index(program) + 1:])
+        if has_it and compiled_same:
+            return "same code", "compiled to the same code"
+        return "survives", "in no program"
+
+    def _rest(self, mutant, file, programs):
+        for program in programs:
+            self.plain_sums(program)
+            if self.build(program, mutant.crate, file) is None or not self.run(program):
+                return "seen", f"{program} writes something else"
+        return "survives", "the programs write the same"
+
+
+def limit():
+    """A program gone wrong is not to fill the disk or the memory."""
+    resource.setrlimit(resource.RLIMIT_FSIZE, (1 << 28, 1 << 28))
+    resource.setrlimit(resource.RLIMIT_CPU, (RUN_SECONDS, RUN_SECONDS))
