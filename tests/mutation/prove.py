@@ -40,29 +40,32 @@ class Prover:
         words = [self.kit.command("rattle"), "check", *self.repository.words(crate, file, rlibs), *self.kit.mode()]
         return run([*words, "--incremental", str(proved)], SECONDS)
 
-    def edited(self, mutant):
-        """A copy of the crate with the edit; answers its root file."""
+    def edited(self, mutant, text=None):
+        """A copy of the crate with the edit, or with this text in its place; answers its root file."""
         crate, folder = mutant.crate, self.room / mutant.crate
         shutil.rmtree(folder, ignore_errors=True)
         for part in ("src", "specs", "proofs"):
             if (self.repository.folder(crate) / part).exists():
                 shutil.copytree(self.repository.folder(crate) / part, folder / part)
-        (folder / mutant.path.relative_to(self.repository.folder(crate))).write_text(mutant.text())
+        (folder / mutant.path.relative_to(self.repository.folder(crate))).write_text(text or mutant.text())
         return folder / self.repository.root_file(crate).relative_to(self.repository.folder(crate))
+
+    def check_text(self, mutant, text):
+        """The prover's status, and what it says, of the mutant's crate with this text in its file."""
+        file = self.edited(mutant, text)
+        linked_copy(self.folder(mutant.crate), self.room / "proved")
+        return self._check(mutant.crate, file, self.room / "proved")
 
     def verdict(self, mutant):
         """`no program`, `same code`, `refused` or `proved`, and the reason."""
-        file = self.edited(mutant)
-        proved = self.room / "proved"
-        linked_copy(self.folder(mutant.crate), proved)
-        verdict, why = judge(*self._check(mutant.crate, file, proved), mutant.crate)
+        verdict, why = judge(*self.check_text(mutant, mutant.text()), mutant.crate)
         if mutant.is_constant and verdict in ("same code", "proved"):
-            return self._above(mutant, file, proved)
+            return self._above(mutant)
         return verdict, why
 
-    def _above(self, mutant, file, proved):
+    def _above(self, mutant):
         """A constant is proved nothing of where it stands: the crates that name it decide."""
-        rlibs = self.room / "rlib"
+        file, proved, rlibs = self.edited(mutant), self.room / "proved", self.room / "rlib"
         shutil.rmtree(rlibs, ignore_errors=True)
         rlibs.mkdir()
         words = [self.kit.command("rattle"), "build", *self.repository.words(mutant.crate, file), *self.kit.mode()]

@@ -18,13 +18,17 @@ class Store:
                 key, verdict, why = json.loads(line)
                 self.known[key] = (verdict, why)
 
-    def get(self, mutant, make):
-        key = f"{mutant.path.name} {mutant.start} {mutant.end} {mutant.new}"
-        if key not in self.known:
-            self.known[key] = make()
-            with open(self.path, "a") as file:
-                file.write(json.dumps([key, *self.known[key]]) + "\n")
-        return self.known[key]
+    def get(self, mutant):
+        return self.known.get(key_of(mutant))
+
+    def put(self, mutant, verdict):
+        self.known[key_of(mutant)] = verdict
+        with open(self.path, "a") as file:
+            file.write(json.dumps([key_of(mutant), *verdict]) + "\n")
+
+
+def key_of(mutant):
+    return f"{mutant.path.name} {mutant.start} {mutant.end} {mutant.new}"
 
 
 class Entry:
@@ -45,7 +49,7 @@ class Entry:
 def read_entries(path):
     entries, fields = [], {}
     for number, line in enumerate([*path.read_text().splitlines(), ""], 1):
-        name, colon, value = line.partition(": ")
+        name, _, value = line.partition(":")
         if line.startswith("#"):
             continue
         if line and name in ("crate", "function", "old", "new", "why") and name not in fields:
