@@ -1,7 +1,7 @@
 """Mutants in functions that do not call each other, judged by one check: the prover answers for each function."""
 import re
 
-from prove import first_error, kind_of
+from prove import first_error
 from source import Source
 
 MOST = 6
@@ -72,10 +72,8 @@ class Batches:
                     return batch
                 found.update(broken)
                 batch = [m for m in batch if m not in broken]
-            elif status == 1:
-                found.update(self._refused(batch, said))
-                return batch
             else:
+                found.update(self._told(batch, said))
                 return batch
         return batch
 
@@ -91,13 +89,15 @@ class Batches:
                 broken[m] = ("no program", errors[0][:300])
         return broken
 
-    def _refused(self, batch, said):
-        """The mutants whose functions are not proved, for a reason of their own."""
-        refused = {}
+    def _told(self, batch, said):
+        """What the check says of each mutant's function, where it is not for another function's sake."""
+        told = {}
         for m in batch:
-            told = re.search(rf"^fn {m.crate}::{m.function}: (.*)$", said, re.M)
-            own = "\n".join(line for line in said.splitlines() if f"/proofs/{m.function}/" in line)
-            if told and told.group(1).startswith("not proved") and "it calls" not in told.group(1) and ": error" in own:
-                why = first_error(own)
-                refused[m] = ("refused", f"{kind_of(why)}: {why}")
-        return refused
+            answer = re.search(rf"^fn {m.crate}::{m.function}: (.*)$", said, re.M)
+            if answer and answer.group(1) == "proved":
+                told[m] = ("same code" if self.prover.is_same_code(m) else "proved", "")
+            elif answer and answer.group(1) == "not proved":
+                own = [line for line in said.splitlines() if f"/proofs/{m.function}/" in line]
+                if any(": error" in line for line in own):
+                    told[m] = ("refused", first_error("\n".join(own)))
+        return told

@@ -325,7 +325,7 @@ class Edits:
         """The bodies of two neighbouring arms swapped."""
         bodies, i, closing = [], opening + 1, self.pairs[opening]
         while i < closing:
-            arrow = self.source._to(i, {"=>"})
+            arrow = self.source.next_of(i, {"=>"})
             if self.tokens[arrow + 1].text == "{":
                 end = self.pairs[arrow + 1] + 1
             else:

@@ -35,13 +35,13 @@ class Names:
         at = i + 2 if self.tokens[i + 1].text == "mut" else i + 1
         if self.tokens[at + 1].text == "::":
             return  # let .. else: a pattern
-        equals = self.source._to(at, {"=", ";"})
+        equals = self.source.next_of(at, {"=", ";"})
         kind = None
         if self.tokens[at + 1].text == ":":
             kind = self.source.words(at + 2, equals)
             self.binding.update(range(at + 1, equals))
         elif self.tokens[equals].text == "=":
-            kind = self.type_of(equals + 1, self.source._to(equals, {";"}))
+            kind = self.type_of(equals + 1, self.source.next_of(equals, {";"}))
         self._bind(at, kind, equals)
 
     def _pattern(self, i):

@@ -5,13 +5,14 @@ import shutil
 from kit import linked_copy, run
 
 SECONDS = 300
-GOAL = re.compile(r"no proof of|`omega`|omega:|is not provable|does not hold|cannot be shown|not equal|≢")
+STEPS = re.compile(r"that can be named from here|this pattern needs|not in scope|takes \d+ arguments|too (?:many|few)|was not admitted")
 
 
 class Prover:
     def __init__(self, repository):
         self.repository, self.kit = repository, repository.kit
         self.room = repository.work / "room"
+        self.mirs = {}
 
     def folder(self, crate):
         """The crate's proved modules, so that a check takes up again only what an edit changes."""
@@ -63,6 +64,21 @@ class Prover:
             return self._above(mutant)
         return verdict, why
 
+    def is_same_code(self, mutant):
+        """Whether the crate is lowered to the same code."""
+        plain = self.mirs.get(mutant.crate) or self._mir(mutant.crate, self.repository.root_file(mutant.crate))
+        self.mirs[mutant.crate] = plain
+        return self._mir(mutant.crate, self.edited(mutant)) == plain
+
+    def _mir(self, crate, file):
+        words = self.repository.words(crate, file)
+        if self.repository.is_program(crate):
+            return run([self.kit.command("rattle-print-mir"), *words], SECONDS)
+        empty = self.room / "empty" / "main.rt"
+        empty.parent.mkdir(parents=True, exist_ok=True)
+        empty.write_text("fn main() {}\n")
+        return run([self.kit.command("rattle-print-mir"), str(empty), "--crate-name", "empty", "--lib", f"{crate}={file}", *words[3:]], SECONDS)
+
     def _above(self, mutant):
         """A constant is proved nothing of where it stands: the crates that name it decide."""
         file, proved, rlibs = self.edited(mutant), self.room / "proved", self.room / "rlib"
@@ -93,22 +109,19 @@ def judge(status, said, crate):
     if status == 1 and not re.search(r"^logic=not-proved", said, re.M):
         return "no program", first_error(said)
     if status == 1:
-        why = first_error(said)
-        return "refused", f"{kind_of(why)}: {why}"
-    return "refused", f"could not tell: {said.strip().splitlines()[-1][:200] if said.strip() else ''}"
+        return "refused", first_error(said)
+    return "refused", f"no verdict: {said.strip().splitlines()[-1][:200] if said.strip() else ''}"
 
 
 def first_error(said):
-    for line in said.splitlines():
-        found = re.search(r"(?:/[^ ]*/)?((?:src|proofs|specs)/[^ ]*: error.*)", line) or re.search(r"(error.*)", line)
-        if found:
-            return found.group(1)[:300]
-    for line in said.splitlines():
-        if re.search(r"no proof|not proved|could not tell", line):
-            return line[:300]
-    return said.strip()[:300]
+    """The first error that does not only follow from another."""
+    errors = re.findall(r"^(?:note: )?(?:/[^ ]*/)?((?:src|proofs|specs)/[^ ]*: (?:error|it is not proved).*)", said, re.M)
+    own = [e for e in errors if "was not admitted" not in e]
+    return (own or errors or said.strip().splitlines()[:1] or [""])[0][:300]
 
 
-def kind_of(error):
+def kind_of(why):
     """Whether a goal cannot be shown, or the proof's steps are no longer those of the code."""
-    return "goal" if GOAL.search(error) else "steps"
+    if why.startswith("no verdict") or why.endswith(f"no end in {SECONDS} s"):
+        return "no verdict"
+    return "steps" if STEPS.search(why) else "goal"

@@ -2,6 +2,8 @@
 import json
 from collections import Counter
 
+from prove import kind_of
+
 OUTCOMES = ["no program", "same code", "refused", "seen", "survives"]
 KINDS = ["operator", "operand", "constant", "branch"]
 
@@ -100,6 +102,6 @@ def table(found):
 
 def refusals(found):
     """How the refused ones were refused."""
-    counts = Counter(why.partition(":")[0] for verdict, why in found.values() if verdict == "refused")
-    goals, steps = counts.pop("goal", 0), counts.pop("steps", 0)
-    return f"refused: {goals} by a goal that cannot be shown, {steps} by a proof whose steps no longer fit, {sum(counts.values())} without a verdict"
+    counts = Counter(kind_of(why) for verdict, why in found.values() if verdict == "refused")
+    return (f"refused: {counts['goal']} by a goal that cannot be shown, {counts['steps']} by a proof whose steps no longer fit, "
+            f"{counts['no verdict']} without a verdict")

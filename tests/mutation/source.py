@@ -3,7 +3,7 @@ import re
 from collections import namedtuple
 
 Token = namedtuple("Token", "kind text start end")
-Function = namedtuple("Function", "name params result first last")
+Function = namedtuple("Function", "name params result first last is_public")
 Constant = namedtuple("Constant", "name type first last")
 
 PATTERN = re.compile(r"""
@@ -70,6 +70,10 @@ class Source:
         self.imported = set()
         self._read_items()
 
+    def is_closed(self):
+        """Whether nothing can be handed to the crate's public functions, so that a program that calls them shows all that they do."""
+        return not any(f.params for f in self.functions if f.is_public)
+
     def parts(self, first, last, mark):
         return split(self.tokens, self.pairs, first, last, mark)
 
@@ -89,20 +93,20 @@ class Source:
             read = readers.get(self.tokens[i].text)
             i = read(i) if read else i + 1
 
-    def _to(self, i, marks):
+    def next_of(self, i, marks):
         """The next of these marks in no bracket."""
         while self.tokens[i].text not in marks:
             i = self.pairs[i] + 1 if self.tokens[i].text in OPEN and self.tokens[i].kind == "mark" else i + 1
         return i
 
     def _use(self, i):
-        end = self._to(i, {";"})
+        end = self.next_of(i, {";"})
         self.imported.add(self.tokens[end - 1].text)
         return end + 1
 
     def _field(self, first, last):
         """The name and the type of `pub name: type`."""
-        colon = self._to(first, {":"})
+        colon = self.next_of(first, {":"})
         return self.tokens[colon - 1].text, self.words(colon + 1, last)
 
     def _fields(self, opening):
@@ -135,23 +139,24 @@ class Source:
         return self.pairs[opening] + 1
 
     def _constant(self, i):
-        colon = self._to(i, {":"})
-        equals = self._to(colon, {"="})
-        end = self._to(equals, {";"})
+        colon = self.next_of(i, {":"})
+        equals = self.next_of(colon, {"="})
+        end = self.next_of(equals, {";"})
         self.constants.append(Constant(self.tokens[i + 1].text, self.words(colon + 1, equals), equals + 1, end))
         return end + 1
 
     def _function(self, i):
-        opening = self._to(i, {"("})
+        opening = self.next_of(i, {"("})
         params = self._fields(opening)
         at = self.pairs[opening] + 1
         result = "()"
         if self.tokens[at].text == "->":
-            end = self._to(at, CLAUSES | {"{"})
+            end = self.next_of(at, CLAUSES | {"{"})
             result, at = self.words(at + 1, end), end
         while self.tokens[at].text in CLAUSES:
-            at = self.pairs[self._to(at, {"{"})] + 1
-        self.functions.append(Function(self.tokens[i + 1].text, params, result, at, self.pairs[at]))
+            at = self.pairs[self.next_of(at, {"{"})] + 1
+        is_public = i > 0 and self.tokens[i - 1].text == "pub"
+        self.functions.append(Function(self.tokens[i + 1].text, params, result, at, self.pairs[at], is_public))
         return self.pairs[at] + 1
 
 

@@ -10,6 +10,7 @@ from pathlib import Path
 from kit import run
 
 BUILD_SECONDS, RUN_SECONDS = 60, 20
+COMPILED_SAME, IN_NO_PROGRAM = "it compiles to the same code in the programs", "in no program"
 
 
 class Trial:
@@ -96,7 +97,8 @@ exit 1
         return self.plain[program]
 
     def verdict(self, mutant, file):
-        """`seen` by a program's run, `same code` once compiled, or `survives`; and why."""
+        """`seen` by a program's run, `same code` once compiled, or `survives`; and why. A library that may be called with other values
+        than the programs have is not the same for being so in them."""
         programs = [p for p in self.repository.programs() if mutant.crate in (p, *self.repository.reached(p))]
         has_it = compiled_same = False
         for program in programs:
@@ -114,8 +116,8 @@ exit 1
             else:
                 return self._rest(mutant, file, programs[programs.index(program) + 1:])
         if has_it and compiled_same:
-            return "same code", "compiled to the same code"
-        return "survives", "in no program"
+            return "same code" if mutant.source.is_closed() else "survives", COMPILED_SAME
+        return "survives", IN_NO_PROGRAM
 
     def _rest(self, mutant, file, programs):
         for program in programs:
