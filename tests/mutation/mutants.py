@@ -38,11 +38,15 @@ class Mutant:
         first = text.rfind("\n", 0, self.start) + 1
         last = text.find("\n", self.end)
         before, after = text[first:last], text[first:self.start] + self.new + text[self.end:last]
-        return " ".join(before.split()), " ".join(after.split())
+        return on_one_line(before), on_one_line(after)
+
+
+def on_one_line(text):
+    return " ".join(line.strip() for line in text.splitlines())
 
 
 def short(text, most=60):
-    text = " ".join(text.split())
+    text = on_one_line(text)
     return text if len(text) <= most else text[:most] + ".."
 
 

@@ -1,5 +1,6 @@
 """What was found: kept between runs, counted, and held to the explained survivors."""
 import json
+import re
 from collections import Counter
 
 from prove import kind_of
@@ -34,7 +35,7 @@ def key_of(mutant):
 
 
 class Entry:
-    """An explained survivor: a line of a function, what it becomes (`*`: whatever), and why that is the same program."""
+    """An explained survivor: a line of a function, what it becomes (`...` stands for any text), and why that is the same program."""
 
     def __init__(self, fields):
         self.crate, self.function = fields["crate"], fields["function"]
@@ -42,7 +43,8 @@ class Entry:
 
     def covers(self, mutant):
         old, new = mutant.lines()
-        return (self.crate, self.function, self.old) == (mutant.crate, mutant.function, old) and self.new in ("*", new)
+        pattern = ".*".join(re.escape(part) for part in self.new.split("..."))
+        return (self.crate, self.function, self.old) == (mutant.crate, mutant.function, old.strip()) and bool(re.fullmatch(pattern, new.strip()))
 
     def __str__(self):
         return f"{self.crate} {self.function}: {self.old} -> {self.new}"

@@ -8,6 +8,7 @@ import tempfile
 from pathlib import Path
 
 from kit import run
+from source import tokens_of
 
 BUILD_SECONDS, RUN_SECONDS = 60, 20
 COMPILED_SAME, IN_NO_PROGRAM = "it compiles to the same code in the programs", "in no program"
@@ -96,35 +97,34 @@ exit 1
                 raise SystemExit(f"mutation: {program} does not write what its file stdout has, with no edit")
         return self.plain[program]
 
+    def _groups(self, crate):
+        """The programs that have a crate. Those of one code, which only run on other files, are together: they are built once."""
+        groups = {}
+        for p in self.repository.programs():
+            if crate in (p, *self.repository.reached(p)):
+                words = tuple(t.text for t in tokens_of(self.repository.root_file(p).read_text()))
+                groups.setdefault(p if p == crate else (words, *self.repository.deps[p]), []).append(p)
+        return groups.values()
+
     def verdict(self, mutant, file):
         """`seen` by a program's run, `same code` once compiled, or `survives`; and why. A library that may be called with other values
         than the programs have is not the same for being so in them."""
-        programs = [p for p in self.repository.programs() if mutant.crate in (p, *self.repository.reached(p))]
-        has_it = compiled_same = False
-        for program in programs:
-            plain = self.plain_sums(program)
-            sums = self.build(program, mutant.crate, file)
+        changed = ran = False
+        for first, *others in self._groups(mutant.crate):
+            plain, sums = self.plain_sums(first), self.build(first, mutant.crate, file)
             if sums is None:
-                return "seen", f"{program} is not built, or does not end on an empty input"
-            if sums[0] == plain[0]:
-                continue
-            has_it = True
-            if sums[1] == plain[1]:
-                compiled_same = True
-            elif not self.run(program):
-                return "seen", f"{program} writes something else"
-            else:
-                return self._rest(mutant, file, programs[programs.index(program) + 1:])
-        if has_it and compiled_same:
+                return "seen", f"{first} is not built, or does not end on an empty input"
+            changed = changed or sums[0] != plain[0]
+            if sums[1] != plain[1]:
+                ran = True
+                for program in (first, *others):
+                    if not self.run(program):
+                        return "seen", f"{program} writes something else"
+        if ran:
+            return "survives", "the programs write the same"
+        if changed:
             return "same code" if mutant.source.is_closed() else "survives", COMPILED_SAME
         return "survives", IN_NO_PROGRAM
-
-    def _rest(self, mutant, file, programs):
-        for program in programs:
-            self.plain_sums(program)
-            if self.build(program, mutant.crate, file) is None or not self.run(program):
-                return "seen", f"{program} writes something else"
-        return "survives", "the programs write the same"
 
 
 def limit():
