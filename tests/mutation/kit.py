@@ -82,10 +82,18 @@ class Repository:
             self.hashes[crate] = digest([self.kit.id, *below, *contents(self.folder(crate), files)])
         return self.hashes[crate]
 
+    def crates_hash(self):
+        return digest([self.hash(c) for c in self.deps])
+
     def tests_hash(self):
         """Of all that the programs' runs rest on."""
         files = [self.folder(c) / part for c in self.programs() for part in ("stdin", "stdout", "args")]
-        return digest([self.hash(c) for c in self.deps] + contents(self.root, [f for f in files if f.is_file()]))
+        files += [self.failures(c) for c in self.programs()]
+        return digest([self.crates_hash()] + contents(self.root, [f for f in files if f.is_file()]))
+
+    def failures(self, program):
+        """The script that runs a program where it cannot read or write, if it has one."""
+        return self.root / "tests" / "failures" / program
 
     def words(self, crate, file, rlibs=()):
         """The words of every command on a crate. Libraries are taken from the folders `rlibs` first."""

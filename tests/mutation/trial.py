@@ -70,7 +70,15 @@ exit 1
             status, said = run(words, BUILD_SECONDS)
             if status != 0:
                 raise SystemExit(f"mutation: {program} was not linked: {said}")
-            return self._writes(program, binary, Path(room))
+            return self._writes(program, binary, Path(room)) and self._fails(program, binary)
+
+    def _loaded(self, binary):
+        return [str(self.kit.tools / "lib" / "ld-linux-x86-64.so.2"), "--library-path", str(self.kit.tools / "lib"), str(binary)]
+
+    def _fails(self, program, binary):
+        """Whether the program says what it should where it cannot read or write."""
+        script = self.repository.failures(program)
+        return not script.exists() or run([str(script), *self._loaded(binary)], BUILD_SECONDS)[0] == 0
 
     def _writes(self, program, binary, room):
         folder = self.repository.folder(program)
@@ -81,10 +89,9 @@ exit 1
             data.mkdir()
         args = (folder / "args").read_text().splitlines() if (folder / "args").exists() else []
         stdin = folder / "stdin" if (folder / "stdin").exists() else Path("/dev/null")
-        loader = [str(self.kit.tools / "lib" / "ld-linux-x86-64.so.2"), "--library-path", str(self.kit.tools / "lib")]
         with open(stdin, "rb") as read, open(room / "wrote", "wb") as write:
             try:
-                done = subprocess.run([*loader, str(binary), *args], stdin=read, stdout=write, stderr=subprocess.DEVNULL,
+                done = subprocess.run([*self._loaded(binary), *args], stdin=read, stdout=write, stderr=subprocess.DEVNULL,
                                       timeout=RUN_SECONDS, cwd=data, preexec_fn=limit)
             except subprocess.TimeoutExpired:
                 return False
