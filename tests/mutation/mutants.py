@@ -46,7 +46,7 @@ def on_one_line(text):
 
 
 def short(text, most=60):
-    text = on_one_line(text)
+    text = on_one_line(text) or (text and repr(text))
     return text if len(text) <= most else text[:most] + ".."
 
 
