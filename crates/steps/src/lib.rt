@@ -59,27 +59,26 @@ pub fn free_record() -> Record
     }
 }
 
-// The record in a slot: the free one above the last.
-pub fn record_at(records: [Record; 4], slot: u64) -> Record
-    ensures { λ r. ⌜ r ≡ recordAt records slot ⌝ }
-{
-    if slot < 4 {
-        let i = slot as usize;
-        records[i]
-    } else {
-        free_record()
-    }
-}
-
-// The record of a slot, or the new one if that is for this slot.
+// A record, or the new one if two slots are the same.
 fn replaced(slot: u64, old: Record, place: u64, new: Record) -> Record
     ensures { λ r. ⌜ r ≡ cond (eqb slot place) new old ⌝ }
 {
     if slot == place { new } else { old }
 }
 
-// The records with this one in a slot, where there is one. Each of the four is named: an index that may be any of them would keep
-// them all in memory.
+// The record in a slot: the free one above the last. Each of the four is named: an index that may be any of them would keep them
+// all in memory.
+pub fn record_at(records: [Record; 4], slot: u64) -> Record
+    ensures { λ r. ⌜ r ≡ recordAt records slot ⌝ }
+{
+    let above = free_record();
+    let fourth = replaced(3, above, slot, records[3]);
+    let third = replaced(2, fourth, slot, records[2]);
+    let second = replaced(1, third, slot, records[1]);
+    replaced(0, second, slot, records[0])
+}
+
+// The records with this one in a slot, where there is one.
 fn put_at(records: [Record; 4], slot: SlotNumber, new: Record) -> [Record; 4]
     ensures { λ r. ⌜ r ≡ putAt records (slotOf slot) new ⌝ }
 {
