@@ -9,8 +9,9 @@ use twin::Replay;
 
 const USAGE: &str = "\
 usage: twin [--trusting]
-Reads lines from standard input and writes an answer to each. Every call tests
-whether the state is sound; with --trusting none does once a fresh was accepted.";
+Reads lines from standard input and writes an answer to each. Every ask, tick,
+packet and drop tests whether the state is sound; with --trusting none does once
+a fresh was accepted.";
 
 fn main() -> ExitCode {
     let words: Vec<_> = std::env::args_os().skip(1).collect();
