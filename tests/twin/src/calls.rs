@@ -2,6 +2,9 @@
 //!
 //! A refusal leaves the state and the out buffer as they were: each call makes
 //! all its tests, in the order of their numbers, before it writes anything.
+//!
+//! The public calls test any state for soundness; those named `..._with` only
+//! one that isn't known to be sound.
 
 use crate::frame::{FRAME_LEN, Frame};
 use crate::interface::{Interface, MAX_CONFLICTS, PROBE_NUM, Record, Stage};
@@ -41,6 +44,15 @@ pub struct Answer {
     pub next: Option<Time>,
 }
 
+/// What is known beforehand of the state that a call is handed.
+#[derive(Clone, Copy, Debug, PartialEq, Eq)]
+pub(crate) enum Known {
+    Nothing,
+    /// It is sound: an accepted fresh made it, or a call that was handed a
+    /// sound one.
+    Sound,
+}
+
 impl Kind {
     /// Whether the call wrote a frame to the out buffer.
     #[inline]
@@ -72,7 +84,19 @@ impl Interface {
         policy: u64,
         draw: u32,
     ) -> Result<Answer, Refusal> {
-        self.admit(time)?;
+        self.ask_with(Known::Nothing, time, address, policy, draw)
+    }
+
+    #[inline]
+    pub(crate) fn ask_with(
+        &mut self,
+        known: Known,
+        time: Time,
+        address: Address,
+        policy: u64,
+        draw: u32,
+    ) -> Result<Answer, Refusal> {
+        self.admit(known, time)?;
         if !address.is_allowed() {
             return Err(Refusal::AddressNotAllowed);
         }
@@ -101,7 +125,18 @@ impl Interface {
     /// lowest slot on a tie; one frame a call."
     #[inline]
     pub fn tick(&mut self, time: Time, draw: u32, out: &mut [u8]) -> Result<Answer, Refusal> {
-        self.admit(time)?;
+        self.tick_with(Known::Nothing, time, draw, out)
+    }
+
+    #[inline]
+    pub(crate) fn tick_with(
+        &mut self,
+        known: Known,
+        time: Time,
+        draw: u32,
+        out: &mut [u8],
+    ) -> Result<Answer, Refusal> {
+        self.admit(known, time)?;
         let out = room(out)?;
         self.latest = time;
         match self.earliest() {
@@ -113,7 +148,18 @@ impl Interface {
     /// Packet: "at most one record can be concerned."
     #[inline]
     pub fn packet(&mut self, time: Time, bytes: &[u8], out: &mut [u8]) -> Result<Answer, Refusal> {
-        self.admit(time)?;
+        self.packet_with(Known::Nothing, time, bytes, out)
+    }
+
+    #[inline]
+    pub(crate) fn packet_with(
+        &mut self,
+        known: Known,
+        time: Time,
+        bytes: &[u8],
+        out: &mut [u8],
+    ) -> Result<Answer, Refusal> {
+        self.admit(known, time)?;
         let out = room(out)?;
         let frame = Frame::read(bytes)?;
         self.latest = time;
@@ -126,7 +172,17 @@ impl Interface {
     /// Drop: "frees it."
     #[inline]
     pub fn drop(&mut self, time: Time, slot: u64) -> Result<Answer, Refusal> {
-        self.admit(time)?;
+        self.drop_with(Known::Nothing, time, slot)
+    }
+
+    #[inline]
+    pub(crate) fn drop_with(
+        &mut self,
+        known: Known,
+        time: Time,
+        slot: u64,
+    ) -> Result<Answer, Refusal> {
+        self.admit(known, time)?;
         let slot = self.held_slot(slot).ok_or(Refusal::SlotNotHeld)?;
         self.latest = time;
         self.slots[slot] = Record::FREE;
@@ -135,8 +191,8 @@ impl Interface {
 
     /// The tests that all calls with a state and a time share: 1, 3 and 4.
     #[inline]
-    fn admit(&self, time: Time) -> Result<(), Refusal> {
-        if !self.is_sound() {
+    fn admit(&self, known: Known, time: Time) -> Result<(), Refusal> {
+        if known != Known::Sound && !self.is_sound() {
             Err(Refusal::StateNotSound)
         } else if !time.in_range() {
             Err(Refusal::TimeAboveRange)

@@ -22,4 +22,4 @@ pub use frame::{FRAME_LEN, Frame};
 pub use interface::{Interface, Record, SLOTS, Stage};
 pub use numbers::{Address, Hardware, Time};
 pub use refusal::Refusal;
-pub use replay::{Replay, replay};
+pub use replay::{Replay, replay, replay_with};

@@ -1,12 +1,29 @@
-//! Replays standard input to standard output.
+//! Replays standard input to standard output: twin [--trusting].
 
 use std::fs::File;
 use std::io::{self, ErrorKind};
 use std::os::fd::AsFd;
 use std::process::ExitCode;
 
+use twin::Replay;
+
+const USAGE: &str = "\
+usage: twin [--trusting]
+Reads lines from standard input and writes an answer to each. Every ask, tick,
+packet and drop tests whether the state is sound; with --trusting none does once
+a fresh was accepted.";
+
 fn main() -> ExitCode {
-    match run() {
+    let words: Vec<_> = std::env::args_os().skip(1).collect();
+    let replay = match words.as_slice() {
+        [] => Replay::new(),
+        [word] if word == "--trusting" => Replay::trusting(),
+        _ => {
+            eprintln!("{USAGE}");
+            return ExitCode::from(2);
+        }
+    };
+    match run(replay) {
         Ok(()) => ExitCode::SUCCESS,
         // Nobody reads the answers any more: there is nothing left to do.
         Err(error) if error.kind() == ErrorKind::BrokenPipe => ExitCode::SUCCESS,
@@ -18,8 +35,8 @@ fn main() -> ExitCode {
 }
 
 /// Replays over the bare handles, without the standard library's buffers.
-fn run() -> io::Result<()> {
-    twin::replay(bare(io::stdin())?, bare(io::stdout())?)
+fn run(replay: Replay) -> io::Result<()> {
+    twin::replay_with(replay, bare(io::stdin())?, bare(io::stdout())?)
 }
 
 fn bare(stream: impl AsFd) -> io::Result<File> {
