@@ -8,88 +8,146 @@ use mathlib.Core.Logic.{⊎-elim}
 use native.Mathlib.Nat.{eq-or-lt-of-le}
 use native.Mathlib.Numerals.{add-one}
 use native.Mathlib.Omega.{arith}
+use lib.Dec.{eqb, eqb·suc-suc}
 use lib.ListN.{length, drop, length-append}
 use borrow.Author.Tests.{le-leb, lt-leb}
 use Rattle.rules.specs.Bytes.{sameBytes}
 use Rattle.rules.proofs.BytesLaws.{same-equal}
+use Rattle.rules.specs.declared.Time.{Time}
 use Rattle.rules.specs.declared.Ipv4Address.{Ipv4Address}
 use Rattle.machine.specs.Calls.{Call}
-use Rattle.lines.specs.Fields.{tab, parts, firstPart}
+use Rattle.lines.specs.Fields.{tab, parts, firstPart, _then_}
 use Rattle.lines.specs.Numbers.{number, largest, largestDraw, address}
-use Rattle.lines.specs.Forms.{longestLine, callOf, callIn, time, freshWord, askWord, tickWord, packetWord, dropWord}
+use Rattle.lines.specs.Forms.{longestLine, callOf, callIn, field, time, freshWord, askWord, tickWord, packetWord, dropWord}
 use Rattle.lines.proofs.FieldLaws.{first-length, one-part, more-parts, separated}
 use Rattle.lines.proofs.ReadingLaws.{then-none}
 use Rattle.fields.specs.Places.{begun}
 use Rattle.fields.proofs.Laws.{begun-is, is-begun}
+use Rattle.numerals.specs.Parts.{readingOf}
+use Rattle.numerals.specs.declared.Reading.{Reading}
+use Rattle.numerals.specs.declared.Reading.the-variants as Reading
 use Rattle.addresses.specs.Parts.{addressOf}
 use Rattle.addresses.specs.declared.AddressReading.{AddressReading}
 use Rattle.addresses.specs.declared.AddressReading.the-variants as AddressReading
 use Rattle.forms.specs.declared.Command.{Command}
 use Rattle.forms.specs.declared.Command.the-variants as Command
 use Rattle.forms.specs.Parts.{Makes, Always, freshCall, askCall, tickCall, packetCall, dropCall, ifCount}
-use Rattle.forms.proofs.Laws.{last-field, tab-in-number, same-call, none-made, one-more, too-few}
+use Rattle.forms.proofs.Laws.{last-field, tab-in-number, read-none, read-some, same-call, none-made, too-few}
+use Rattle.commands.specs.Parts.{addressAt, policyAt, drawAt}
 
--- `ask` from its fields, and split off the line.
-module _ (first second third last : List ℕ) where
-  pub ask-no-time : number largest first ≡ none → Always Command.Malformed (askCall (askWord ∷ first ∷ second ∷ third ∷ last ∷ []))
-  ask-no-time t = none-made _ (rw t)
+-- A test of what is read, before the reading or behind it.
+cond-then : {A B : Type 0} (test : Bool) (o : Option A) (next : A → Option B) → cond test (o then next) none ≡ (o then λ a. cond test (next a) none)
+cond-then true o next = refl
+cond-then false o next = sym (then-none o _ (λ a. refl))
 
-  pub ask-no-address : address second ≡ none → Always Command.Malformed (askCall (askWord ∷ first ∷ second ∷ third ∷ last ∷ []))
-  ask-no-address a = none-made _ (then-none (time first) _ (λ t. rw a))
+-- The count of the fields behind one.
+count-behind : (count : ℕ) (call : List (List ℕ) → Option Call) (x : List ℕ) (ys : List (List ℕ))
+    → ifCount (suc count) call (x ∷ ys) ≡ ifCount count (λ fs. call (x ∷ fs)) ys
+count-behind count call x ys = ap (λ t. cond t (call (x ∷ ys)) none) (eqb·suc-suc (length ys) count)
 
-  pub ask-no-policy : number largest third ≡ none → Always Command.Malformed (askCall (askWord ∷ first ∷ second ∷ third ∷ last ∷ []))
-  ask-no-policy p = none-made _ (then-none (time first) _ (λ t. then-none (address second) _ (λ a. rw p)))
+-- Fields of which the first is read, and makes with the others what `next` says.
+record ReadFirst {A : Type 0} (call : List (List ℕ) → Option Call) (read : List ℕ → Option A) (next : A → List (List ℕ) → Option Call) : Type 0 where
+  reads : (x : List ℕ) (ys : List (List ℕ)) → call (x ∷ ys) ≡ (read x then λ a. next a ys)
 
-  ask-without-draw : number largestDraw last ≡ none → askCall (askWord ∷ first ∷ second ∷ third ∷ last ∷ []) ≡ none
-  ask-without-draw d =
-      then-none (time first) _ (λ t. then-none (address second) _ (λ a. then-none (number largest third) _ (λ p. rw d)))
+module _ {A : Type 0} {call : List (List ℕ) → Option Call} {read : List ℕ → Option A} {next : A → List (List ℕ) → Option Call}
+    (form : ReadFirst call read next) (count : ℕ) (rest : List ℕ) where
+  abbrev whole : Option Call
+  whole = ifCount (suc (suc count)) call (parts tab rest)
 
-  pub ask-no-draw : number largestDraw last ≡ none → Always Command.Malformed (askCall (askWord ∷ first ∷ second ∷ third ∷ last ∷ []))
-  ask-no-draw d = none-made _ (ask-without-draw d)
+  alone : length rest ≤ length (firstPart tab rest) → whole ≡ none
+  alone all = too-few (suc (suc count)) call [] rest (firstPart tab rest) refl all (omega arith)
 
-  pub ask-made : (ms policy draw narrow : ℕ) (wanted : Ipv4Address) → number largest first ≡ some ms → address second ≡ some wanted
-      → number largest third ≡ some policy → number largestDraw last ≡ some draw → narrow ≡ draw
-      → Always (Command.Ask (record { 0 = ms }) wanted policy narrow) (askCall (askWord ∷ first ∷ second ∷ third ∷ last ∷ []))
-  ask-made ms policy draw narrow wanted t a p d e = record { always = λ head. record { makes = rw (t, a, p, d, e) } }
+  split : length (firstPart tab rest) < length rest
+      → whole ≡ (read (firstPart tab rest) then λ a. ifCount (suc count) (next a) (parts tab (drop (suc (length (firstPart tab rest))) rest)))
+  split more =
+      ap (ifCount (suc (suc count)) call) (more-parts tab rest more)
+      ∙ count-behind (suc count) call (firstPart tab rest) others
+      ∙ ap (λ o. cond (eqb (length others) (suc count)) o none) (form .reads (firstPart tab rest) others)
+      ∙ cond-then (eqb (length others) (suc count)) (read (firstPart tab rest)) _
+    where
+      others : List (List ℕ)
+      others = parts tab (drop (suc (length (firstPart tab rest))) rest)
 
-pub address-none : {o : Option Ipv4Address} (r : AddressReading) → addressOf r ≡ o → r ≡ AddressReading.Malformed → o ≡ none
-address-none r e m = sym e ∙ ap addressOf m
+  unread : read (firstPart tab rest) ≡ none → whole ≡ none
+  unread e = ⊎-elim (λ all. alone (omega (arith, all))) (λ more. split more ∙ rw e) (eq-or-lt-of-le (first-length tab rest))
 
-pub address-some : {o : Option Ipv4Address} (r : AddressReading) (a : Ipv4Address) → addressOf r ≡ o → r ≡ AddressReading.Address a → o ≡ some a
-address-some r a e m = sym e ∙ ap addressOf m
+  goes-on : (a : A) (end : ℕ) (last : List ℕ) → read (firstPart tab rest) ≡ some a → end ≡ length (firstPart tab rest)
+      → end < length rest → last ≡ drop (suc end) rest → ifCount (suc count) (next a) (parts tab last) ≡ whole
+  goes-on a end last e place more behind =
+      ap (λ l. ifCount (suc count) (next a) (parts tab l)) (behind ∙ ap (λ k. drop (suc k) rest) place)
+      ∙ sym (split (omega (arith, place)) ∙ rw e refl)
 
-module _ (rest next : List ℕ) (cut : next ≡ firstPart tab rest) where
-  module _ (command : Command) (last : List ℕ) (more : length next < length rest) (behind : last ≡ drop (suc (length next)) rest) where
-    pub ask-split : Always command (ifCount 5 askCall (askWord ∷ next ∷ parts tab last)) → Always command (ifCount 5 askCall (askWord ∷ parts tab rest))
-    ask-split =
+-- `ask` time address policy draw: the time first.
+time-first : ReadFirst (λ fields. askCall (askWord ∷ fields)) time addressAt
+time-first = record { reads = λ x ys. refl }
+
+module _ (rest : List ℕ) (r : Reading) (told : readingOf r ≡ number largest (firstPart tab rest)) where
+  ask-behind : ifCount 5 askCall (askWord ∷ parts tab rest) ≡ ifCount 4 (λ fields. askCall (askWord ∷ fields)) (parts tab rest)
+  ask-behind = count-behind 4 askCall askWord (parts tab rest)
+
+  pub ask-no-time : r ≡ Reading.Malformed → Always Command.Malformed (ifCount 5 askCall (askWord ∷ parts tab rest))
+  ask-no-time is = none-made _ (ask-behind ∙ unread time-first 2 rest (rw (read-none r told is)))
+
+  module _ (n end : ℕ) (is : r ≡ Reading.Number n) (ends : (m : ℕ) → readingOf r ≡ some m → end ≡ length (firstPart tab rest)) where
+    pub ask-time-alone : length rest ≤ end → Always Command.Malformed (ifCount 5 askCall (askWord ∷ parts tab rest))
+    ask-time-alone all = none-made _ (ask-behind ∙ alone time-first 2 rest (omega (arith, ends n (ap readingOf is))))
+
+    pub ask-timed : end < length rest → (last : List ℕ) → last ≡ drop (suc end) rest → (command : Command)
+        → Always command (ifCount 3 (addressAt (record { 0 = n })) (parts tab last))
+        → Always command (ifCount 5 askCall (askWord ∷ parts tab rest))
+    ask-timed more last behind command =
         same-call command _ _
-        (ap (λ l. ifCount 5 askCall (askWord ∷ next ∷ parts tab l)) behind ∙ one-more 5 askCall (askWord ∷ []) rest next cut more)
+        (goes-on time-first 2 rest (record { 0 = n }) end last (rw (read-some r n told is) refl) (ends n (ap readingOf is)) more behind
+        ∙ sym ask-behind)
 
-    pub ask-split-second : (first : List ℕ) → Always command (ifCount 5 askCall (askWord ∷ first ∷ next ∷ parts tab last))
-        → Always command (ifCount 5 askCall (askWord ∷ first ∷ parts tab rest))
-    ask-split-second first =
+-- Then the address.
+address-first : (t : Time) → ReadFirst (addressAt t) address (policyAt t)
+address-first t = record { reads = λ x ys. refl }
+
+module _ (t : Time) (rest second : List ℕ) (cut : second ≡ firstPart tab rest) where
+  pub ask-address-alone : length rest ≤ length second → Always Command.Malformed (ifCount 3 (addressAt t) (parts tab rest))
+  ask-address-alone all = none-made _ (alone (address-first t) 1 rest (omega (arith, all, ap length cut)))
+
+  module _ (r : AddressReading) (told : addressOf r ≡ address second) where
+    pub ask-no-address : r ≡ AddressReading.Malformed → Always Command.Malformed (ifCount 3 (addressAt t) (parts tab rest))
+    ask-no-address is = none-made _ (unread (address-first t) 1 rest (ap address (sym cut) ∙ sym told ∙ ap addressOf is))
+
+    pub ask-addressed : (wanted : Ipv4Address) → r ≡ AddressReading.Address wanted → length second < length rest
+        → (last : List ℕ) → last ≡ drop (suc (length second)) rest → (command : Command)
+        → Always command (ifCount 2 (policyAt t wanted) (parts tab last)) → Always command (ifCount 3 (addressAt t) (parts tab rest))
+    ask-addressed wanted is more last behind command =
         same-call command _ _
-        (ap (λ l. ifCount 5 askCall (askWord ∷ first ∷ next ∷ parts tab l)) behind
-        ∙ one-more 5 askCall (askWord ∷ first ∷ []) rest next cut more)
+        (goes-on (address-first t) 1 rest wanted (length second) last (ap address (sym cut) ∙ sym told ∙ ap addressOf is) (ap length cut)
+        more behind)
 
-    pub ask-split-third : (first second : List ℕ) → Always command (askCall (askWord ∷ first ∷ second ∷ next ∷ last ∷ []))
-        → Always command (ifCount 5 askCall (askWord ∷ first ∷ second ∷ parts tab rest))
-    ask-split-third first second =
-        same-call command _ _
-        (last-field 5 askCall (askWord ∷ first ∷ second ∷ next ∷ []) last refl
-        (λ m. ask-without-draw first second next last (tab-in-number last m largestDraw))
-        ∙ ap (λ l. ifCount 5 askCall (askWord ∷ first ∷ second ∷ next ∷ parts tab l)) behind
-        ∙ one-more 5 askCall (askWord ∷ first ∷ second ∷ []) rest next cut more)
+-- Then the policy, and the draw, which is all that is left of the line.
+policy-first : (t : Time) (wanted : Ipv4Address)
+    → ReadFirst (policyAt t wanted) (number largest) (λ policy fields. drawAt t wanted policy (field 0 fields))
+policy-first t wanted = record { reads = λ x ys. refl }
 
-  module _ (all : length rest ≤ length next) where
-    pub ask-alone : Always Command.Malformed (ifCount 5 askCall (askWord ∷ parts tab rest))
-    ask-alone = none-made _ (too-few 5 askCall (askWord ∷ []) rest next cut all (omega arith))
+module _ (t : Time) (wanted : Ipv4Address) where
+  module _ (rest : List ℕ) (r : Reading) (told : readingOf r ≡ number largest (firstPart tab rest)) where
+    pub ask-no-policy : r ≡ Reading.Malformed → Always Command.Malformed (ifCount 2 (policyAt t wanted) (parts tab rest))
+    ask-no-policy is = none-made _ (unread (policy-first t wanted) 0 rest (read-none r told is))
 
-    pub ask-alone-second : (first : List ℕ) → Always Command.Malformed (ifCount 5 askCall (askWord ∷ first ∷ parts tab rest))
-    ask-alone-second first = none-made _ (too-few 5 askCall (askWord ∷ first ∷ []) rest next cut all (omega arith))
+    module _ (policy end : ℕ) (is : r ≡ Reading.Number policy) (ends : (m : ℕ) → readingOf r ≡ some m → end ≡ length (firstPart tab rest)) where
+      pub ask-policy-alone : length rest ≤ end → Always Command.Malformed (ifCount 2 (policyAt t wanted) (parts tab rest))
+      ask-policy-alone all = none-made _ (alone (policy-first t wanted) 0 rest (omega (arith, ends policy (ap readingOf is))))
 
-    pub ask-alone-third : (first second : List ℕ) → Always Command.Malformed (ifCount 5 askCall (askWord ∷ first ∷ second ∷ parts tab rest))
-    ask-alone-third first second = none-made _ (too-few 5 askCall (askWord ∷ first ∷ second ∷ []) rest next cut all (omega arith))
+      pub ask-with-policy : end < length rest → (last : List ℕ) → last ≡ drop (suc end) rest → (command : Command)
+          → Always command (drawAt t wanted policy last) → Always command (ifCount 2 (policyAt t wanted) (parts tab rest))
+      ask-with-policy more last behind command =
+          same-call command _ _
+          (last-field 1 (λ fields. drawAt t wanted policy (field 0 fields)) [] last refl (λ m. rw (tab-in-number last m largestDraw))
+          ∙ goes-on (policy-first t wanted) 0 rest policy end last (read-some r policy told is) (ends policy (ap readingOf is)) more behind)
+
+  module _ (policy : ℕ) (last : List ℕ) where
+    pub ask-no-draw : number largestDraw last ≡ none → Always Command.Malformed (drawAt t wanted policy last)
+    ask-no-draw d = none-made _ (rw d)
+
+    pub ask-made : (draw narrow : ℕ) → number largestDraw last ≡ some draw → narrow ≡ draw
+        → Always (Command.Ask t wanted policy narrow) (drawAt t wanted policy last)
+    ask-made draw narrow d e = record { always = λ head. record { makes = rw (d, e) } }
 
 -- A line that is a form's word, a tab and more makes that form's call.
 fresh-form : (rest : List ℕ) → callIn (parts tab (freshWord ++ (tab ∷ rest))) ≡ ifCount 2 freshCall (freshWord ∷ parts tab rest)

@@ -7,55 +7,61 @@ use forms::LARGEST_DRAW;
 use forms::TAB;
 use lines::LONGEST_LINE;
 use numerals::Reading;
+use rules::Ipv4Address;
 use rules::Time;
-ghost use mathlib.Core.List.{[], _∷_};
+ghost use mathlib.Core.List.{_∷_};
 ghost use Rattle.lines.specs.Fields.{tab, parts};
 ghost use Rattle.lines.specs.Forms.{askWord, callOf};
 ghost use Rattle.forms.specs.Parts.{Makes, Always, ifCount, askCall};
+ghost use Rattle.commands.specs.Parts.{addressAt, policyAt, drawAt};
 
-// `ask` time address policy draw: all four fields, then one split off the line after the other.
-fn ask_fields(first: &[u8], second: &[u8], third: &[u8], last: &[u8]) -> Command
-    ensures { λ r. ⌜ Always r (askCall (askWord ∷ now (first .entry) ∷ now (second .entry) ∷ now (third .entry) ∷ now (last .entry) ∷ [])) ⌝ }
+// `ask` time address policy draw: one field read off the line after the other.
+fn ask_draw(time: Time, address: Ipv4Address, policy: u64, last: &[u8]) -> Command
+    ensures { λ r. ⌜ Always r (drawAt time address policy (now (last .entry))) ⌝ }
 {
-    match numerals::number(first, LARGEST) {
+    match numerals::number(last, LARGEST_DRAW) {
         Reading::Malformed => Command::Malformed,
-        Reading::Number(time) => match addresses::address(second) {
-            AddressReading::Malformed => Command::Malformed,
-            AddressReading::Address(address) => match numerals::number(third, LARGEST) {
-                Reading::Malformed => Command::Malformed,
-                Reading::Number(policy) => match numerals::number(last, LARGEST_DRAW) {
-                    Reading::Malformed => Command::Malformed,
-                    Reading::Number(draw) => Command::Ask {
-                        time: Time(time),
-                        address,
-                        policy,
-                        draw: forms::narrow(draw),
-                    },
-                },
-            },
+        Reading::Number(draw) => Command::Ask {
+            time,
+            address,
+            policy,
+            draw: forms::narrow(draw),
         },
     }
 }
 
-fn ask_third(first: &[u8], second: &[u8], rest: &[u8]) -> Command
-    ensures { λ r. ⌜ Always r (ifCount 5 askCall (askWord ∷ now (first .entry) ∷ now (second .entry) ∷ parts tab (now (rest .entry)))) ⌝ }
+fn ask_policy(time: Time, address: Ipv4Address, rest: &[u8]) -> Command
+    ensures { λ r. ⌜ Always r (ifCount 2 (policyAt time address) (parts tab (now (rest .entry)))) ⌝ }
 {
-    let third = fields::part(rest, TAB);
-    let end = third.len();
-    if end < rest.len() {
-        ask_fields(first, second, third, fields::behind(rest, end))
-    } else {
-        Command::Malformed
+    let third = numerals::first_number(rest, TAB, LARGEST);
+    let end = third.length;
+    let reading = third.reading;
+    match reading {
+        Reading::Malformed => Command::Malformed,
+        Reading::Number(policy) => {
+            if end < rest.len() {
+                ask_draw(time, address, policy, fields::behind(rest, end))
+            } else {
+                Command::Malformed
+            }
+        },
     }
 }
 
-fn ask_second(first: &[u8], rest: &[u8]) -> Command
-    ensures { λ r. ⌜ Always r (ifCount 5 askCall (askWord ∷ now (first .entry) ∷ parts tab (now (rest .entry)))) ⌝ }
+fn ask_address(time: Time, rest: &[u8]) -> Command
+    ensures { λ r. ⌜ Always r (ifCount 3 (addressAt time) (parts tab (now (rest .entry)))) ⌝ }
 {
     let second = fields::part(rest, TAB);
     let end = second.len();
     if end < rest.len() {
-        ask_third(first, second, fields::behind(rest, end))
+        match addresses::address(second) {
+            AddressReading::Malformed => Command::Malformed,
+            AddressReading::Address(address) => ask_policy(
+                time,
+                address,
+                fields::behind(rest, end),
+            ),
+        }
     } else {
         Command::Malformed
     }
@@ -64,12 +70,18 @@ fn ask_second(first: &[u8], rest: &[u8]) -> Command
 fn ask(rest: &[u8]) -> Command
     ensures { λ r. ⌜ Always r (ifCount 5 askCall (askWord ∷ parts tab (now (rest .entry)))) ⌝ }
 {
-    let first = fields::part(rest, TAB);
-    let end = first.len();
-    if end < rest.len() {
-        ask_second(first, fields::behind(rest, end))
-    } else {
-        Command::Malformed
+    let first = numerals::first_number(rest, TAB, LARGEST);
+    let end = first.length;
+    let reading = first.reading;
+    match reading {
+        Reading::Malformed => Command::Malformed,
+        Reading::Number(time) => {
+            if end < rest.len() {
+                ask_address(Time(time), fields::behind(rest, end))
+            } else {
+                Command::Malformed
+            }
+        },
     }
 }
 
