@@ -59,6 +59,8 @@ fn fill(generator: &mut Generator) {
         let lines = generator.random.between(1, 60);
         generator.unborn(lines);
     }
+    let conflicts = 256 * generator.random.between(1, 3) + generator.random.below(10);
+    generator.quarrel(conflicts);
     while generator.lines < wanted {
         let lines = generator.random.between(5, 400);
         generator.history(lines);

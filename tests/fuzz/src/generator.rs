@@ -112,11 +112,12 @@ impl Generator {
         }
     }
 
-    /// At least 70,000 lines of 0 to 3 bytes, the first 40,000 of them empty.
+    /// At least 70,000 lines of 0 to 3 bytes, the first 60,000 of them empty: so
+    /// many that one piece of 32 KiB is nearly all of them.
     pub fn short_lines(&mut self) {
         let wanted = self.lines + self.random.between(70_000, 90_000);
         let mut most = 0;
-        let mut left = 40_000;
+        let mut left = 60_000;
         while self.lines < wanted {
             if left == 0 {
                 most = self.random.below(4);
