@@ -3,6 +3,7 @@
 use crate::coverage::Coverage;
 use crate::generator::Generator;
 use crate::places::Part;
+use crate::program::PIECE_MOST;
 use crate::random::Random;
 
 pub struct Batch {
@@ -19,6 +20,10 @@ impl Batch {
         let mut generator = Generator::new(Random::part(seed, number));
         if number % 40 == 5 {
             generator.unborn(2000);
+        } else if number % 20 == 4 {
+            generator.history(200);
+            generator.short_lines();
+            generator.history(200);
         } else {
             fill(&mut generator);
         }
@@ -30,12 +35,15 @@ impl Batch {
             mut coverage,
             ..
         } = generator;
-        let pieces = if number % 2 == 1 {
+        let pieces = if number % 40 == 4 {
+            vec![PIECE_MOST; input.len().div_ceil(PIECE_MOST)]
+        } else if number % 2 == 1 {
             pieces(&mut random, input.len())
         } else {
             Vec::new()
         };
         count_pieces(&mut coverage, &pieces);
+        coverage.add(Part::Cuts, 10, many_answers(&input, &pieces));
         Batch {
             input,
             pieces,
@@ -51,6 +59,8 @@ fn fill(generator: &mut Generator) {
         let lines = generator.random.between(1, 60);
         generator.unborn(lines);
     }
+    let conflicts = 256 * generator.random.between(1, 3) + generator.random.below(10);
+    generator.quarrel(conflicts);
     while generator.lines < wanted {
         let lines = generator.random.between(5, 400);
         generator.history(lines);
@@ -81,13 +91,25 @@ fn end(generator: &mut Generator, number: u64) {
     }
 }
 
-/// Lengths from 1 byte to 64 KiB, each order of size as likely as the others,
+/// How many pieces, or reads of 69,632 bytes, end so many lines that their
+/// answers, of at least 10 bytes each, take over 262,144 bytes.
+pub fn many_answers(input: &[u8], pieces: &[usize]) -> u64 {
+    let length = match pieces {
+        [] => 69_632,
+        [PIECE_MOST, ..] => PIECE_MOST,
+        _ => return 0,
+    };
+    let many = |part: &&[u8]| part.iter().filter(|byte| **byte == b'\n').count() > 26_214;
+    input.chunks(length).filter(many).count() as u64
+}
+
+/// Lengths from 1 byte to 32 KiB, each order of size as likely as the others,
 /// now and then a run of single bytes.
 pub fn pieces(random: &mut Random, length: usize) -> Vec<usize> {
     let mut pieces = Vec::new();
     let mut left = length;
     while left > 0 {
-        let most = 1 << random.below(17);
+        let most = 1 << random.below(16);
         let times = if most == 1 { random.between(1, 60) } else { 1 };
         for _ in 0..times {
             let piece = (random.between(1, most) as usize).min(left);

@@ -48,6 +48,8 @@ pub struct Book {
     pub latest: u64,
     pub request: Option<u64>,
     pub conflicts: u32,
+    /// The same without an end at 10.
+    pub all_conflicts: u64,
     pub slots: [Option<Record>; 4],
     /// The record freed last, in stage `FREED`.
     pub freed: Option<Record>,
@@ -100,6 +102,7 @@ impl Book {
     fn note_slot(&mut self, call: &Call, kind: Kind, slot: usize) {
         if matches!(kind, Kind::Defend | Kind::Kept | Kind::Lost) {
             self.conflicts = (self.conflicts + 1).min(10);
+            self.all_conflicts += 1;
             self.quarrels[slot] = Some(self.latest);
         }
         match (kind, call) {

@@ -1,7 +1,7 @@
 //! Calls that fit the state, chosen with the book in hand.
 
 use crate::book::{ANNOUNCED, Book, RANGE_END, Record, SETTLED};
-use crate::call::Call;
+use crate::call::{Address, Call};
 use crate::meeting::{Around, Meeting, frame};
 use crate::random::Random;
 use crate::temper::Temper;
@@ -45,15 +45,25 @@ pub fn ask(random: &mut Random, book: &Book, temper: &Temper) -> Call {
     }
 }
 
-/// After ten conflicts, a time about 60,000 ms after the latest request.
+/// After ten conflicts, a time about 60,000 ms after the latest request, also
+/// with 2^32 ms between.
 fn asking_time(random: &mut Random, book: &Book) -> u64 {
     if let (10, Some(request), true) = (book.conflicts, book.request, random.once_in(2)) {
-        let time = request + random.pick(&[59_999, 60_000, 60_001]);
+        let time = request + interval(random, &[59_999, 60_000, 60_001]);
         if time >= book.latest {
             return time;
         }
     }
     values::later(random, book.latest)
+}
+
+/// One of these, at times a far longer one.
+fn interval(random: &mut Random, known: &[u64]) -> u64 {
+    if random.once_in(10) {
+        values::wrapping_step(random)
+    } else {
+        random.pick(known)
+    }
 }
 
 pub fn tick(random: &mut Random, book: &Book) -> Call {
@@ -66,12 +76,13 @@ fn ticking_time(random: &mut Random, book: &Book) -> u64 {
     let Some(deadline) = book.next_deadline() else {
         return values::later(random, book.latest);
     };
-    let time = match random.below(32) {
-        0..=2 => deadline.saturating_sub(1),
-        3..=5 => deadline + 1,
-        6 => deadline + random.between(10_000, 1_000_000),
-        7..=9 => deadline + random.below(3000),
-        10 => book.latest,
+    let time = match random.below(128) {
+        0..=11 => deadline.saturating_sub(1),
+        12..=23 => deadline + 1,
+        24..=27 => deadline + random.between(10_000, 1_000_000),
+        28..=39 => deadline + random.below(3000),
+        40..=43 => book.latest,
+        44 => deadline + values::wrapping_step(random),
         _ => deadline,
     };
     time.max(book.latest).min(RANGE_END)
@@ -96,7 +107,7 @@ pub fn packet(random: &mut Random, book: &Book, temper: &Temper) -> Option<(Call
     let own = book.own?;
     let record = claim(random, book, temper)?;
     let meeting = meeting(random, &record);
-    let elsewhere = [10, 255, random.byte(), random.byte()];
+    let elsewhere = elsewhere(random, book, record.address);
     let target = match random.below(4) {
         0 => elsewhere,
         1 => values::address(random),
@@ -115,6 +126,33 @@ pub fn packet(random: &mut Random, book: &Book, temper: &Temper) -> Option<(Call
     let mut bytes = frame(meeting, record.address, &around);
     lengthen(random, &mut bytes);
     let time = meeting_time(random, book, &record);
+    Some((Call::Packet { time, bytes }, Met { record, meeting }))
+}
+
+/// An address that nobody claims, half of the time near to this one.
+fn elsewhere(random: &mut Random, book: &Book, address: Address) -> Address {
+    let near = values::near(random, address);
+    let free = near != [0; 4] && near != address && !book.holds(near);
+    if free && random.once_in(2) {
+        near
+    } else {
+        [10, 255, random.byte(), random.byte()]
+    }
+}
+
+/// A packet of another machine that has this address as its own.
+pub fn claimed(random: &mut Random, book: &Book, record: Record) -> Option<(Call, Met)> {
+    let own = book.own?;
+    let around = Around {
+        own,
+        other: values::other_hardware(random, own),
+        elsewhere: [0; 4],
+        target: record.address,
+        target_hardware: [0; 6],
+    };
+    let meeting = Meeting::OtherRequest;
+    let bytes = frame(meeting, record.address, &around);
+    let time = book.latest;
     Some((Call::Packet { time, bytes }, Met { record, meeting }))
 }
 
@@ -139,10 +177,11 @@ fn meeting(random: &mut Random, record: &Record) -> Meeting {
     random.pick(&Meeting::ALL).0
 }
 
-/// A time about 10,000 ms after the claim's last conflict, or soon.
+/// A time about 10,000 ms after the claim's last conflict, also with 2^32 ms
+/// between, or soon.
 fn meeting_time(random: &mut Random, book: &Book, record: &Record) -> u64 {
     if let (Some(conflict), false) = (record.conflict, random.once_in(4)) {
-        let time = conflict.time + random.pick(&[0, 9_999, 10_000, 10_001]);
+        let time = conflict.time + interval(random, &[0, 9_999, 10_000, 10_001]);
         if (book.latest..=RANGE_END).contains(&time) {
             return time;
         }

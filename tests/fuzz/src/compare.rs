@@ -1,5 +1,7 @@
 //! The comparison of a program with the twin.
 
+use std::time::Duration;
+
 use crate::program::{Outcome, Program};
 
 /// The first place where a program and the twin part.
@@ -21,9 +23,14 @@ pub fn expected(input: &[u8]) -> Vec<u8> {
 }
 
 /// Runs both on the same input at the same time.
-pub fn differ(program: &dyn Program, input: &[u8], pieces: &[usize]) -> Option<Difference> {
+pub fn differ(
+    program: &dyn Program,
+    input: &[u8],
+    pieces: &[usize],
+    patience: Duration,
+) -> Option<Difference> {
     let (twin, outcome) = std::thread::scope(|scope| {
-        let running = scope.spawn(|| program.run(input, pieces));
+        let running = scope.spawn(|| program.run(input, pieces, patience));
         let twin = expected(input);
         (twin, running.join().expect("the runner doesn't fail"))
     });

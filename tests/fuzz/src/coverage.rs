@@ -8,8 +8,8 @@ use crate::call::Call;
 use crate::meeting::Meeting;
 use crate::mutate::MUTATIONS;
 use crate::places::{
-    BEFORE, BEFORE_INTERVALS, CUTS, DEADLINES, FRESHES, INTERVALS, LATENESS, OTHER_INTERVALS,
-    OVERDUE, PACKETS, POLICIES, Part, RATE, REFUSALS, REFUSALS_TITLE, TIMES,
+    BEFORE, BEFORE_INTERVALS, CLOCK, CUTS, DEADLINES, FRESHES, INTERVALS, LATENESS,
+    OTHER_INTERVALS, OVERDUE, PACKETS, POLICIES, Part, RATE, REFUSALS, REFUSALS_TITLE, TIMES,
 };
 use crate::reasons::PAIRS;
 use crate::values::{ADDRESSES, DRAWS};
@@ -40,6 +40,7 @@ impl Coverage {
         intervals.extend(OTHER_INTERVALS.map(String::from));
         let mut times = cross(&Call::WORDS[1..], &TIMES);
         times.extend(DEADLINES.map(String::from));
+        times.extend(CLOCK.map(String::from));
         let draws = cross(&["ask", "tick"], &DRAWS);
         let addresses = ADDRESSES.map(|[a, b, c, d]| format!("{a}.{b}.{c}.{d}"));
         let broken: Vec<&str> = MUTATIONS.iter().map(|mutation| mutation.name).collect();

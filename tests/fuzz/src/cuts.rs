@@ -1,10 +1,10 @@
-//! Short histories, ended after each single byte.
+//! Short histories, ended after each single byte, or cut in two there.
 
 use crate::compare::{Difference, differ};
 use crate::coverage::Coverage;
 use crate::generator::Generator;
 use crate::places::Part;
-use crate::program::Program;
+use crate::program::{PATIENCE, Program};
 use crate::random::Random;
 
 /// A history of a few hundred bytes.
@@ -19,19 +19,42 @@ pub fn short_history(seed: u64, number: u64) -> Vec<u8> {
     input
 }
 
-/// The first beginning of the input on which the program and the twin differ.
+/// An input, the pieces in which it arrives, and what came of it.
+pub struct Cut<'a> {
+    pub input: &'a [u8],
+    pub pieces: Vec<usize>,
+    pub difference: Difference,
+}
+
+/// The first cut of the input on which the program and the twin differ.
 pub fn at_each_byte<'a>(
     program: &dyn Program,
     input: &'a [u8],
     coverage: &mut Coverage,
-) -> Option<(&'a [u8], Difference)> {
+) -> Option<Cut<'a>> {
     coverage.hit(Part::Cuts, 4);
     for length in 0..=input.len() {
-        let beginning = &input[..length];
-        if let Some(difference) = differ(program, beginning, &[]) {
-            return Some((beginning, difference));
+        let found = cut(program, &input[..length], Vec::new());
+        if found.is_some() {
+            return found;
         }
         coverage.hit(Part::Cuts, 3);
     }
+    for first in 1..input.len() {
+        let found = cut(program, input, vec![first, input.len() - first]);
+        if found.is_some() {
+            return found;
+        }
+        coverage.hit(Part::Cuts, 9);
+    }
     None
+}
+
+fn cut<'a>(program: &dyn Program, input: &'a [u8], pieces: Vec<usize>) -> Option<Cut<'a>> {
+    let difference = differ(program, input, &pieces, PATIENCE)?;
+    Some(Cut {
+        input,
+        pieces,
+        difference,
+    })
 }

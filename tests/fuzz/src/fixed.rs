@@ -4,6 +4,7 @@
 use crate::compare::expected;
 use crate::coverage::Coverage;
 use crate::generator::Generator;
+use crate::places::Part;
 use crate::random::Random;
 
 pub const SEED: u64 = 5227;
@@ -16,6 +17,9 @@ const POOL: u64 = 6000;
 const UNBORN: u64 = 100;
 const FIRSTS: u64 = 50;
 
+/// Conflicts in one history of many.
+const QUARREL: u64 = 260;
+
 /// A history and the places that it reaches.
 struct Candidate {
     input: Vec<u8>,
@@ -23,6 +27,14 @@ struct Candidate {
     coverage: Coverage,
     /// The numbers of the places reached.
     places: Vec<usize>,
+}
+
+impl Candidate {
+    /// How many of the pairs of refusals it reaches.
+    fn pairs(&self) -> usize {
+        let counts = &self.coverage.tables[Part::Pairs as usize].counts;
+        counts.iter().filter(|count| **count > 0).count()
+    }
 }
 
 pub struct Fixed {
@@ -36,13 +48,14 @@ impl Fixed {
     pub fn new(lines: u64) -> Fixed {
         let first = (0..FIRSTS)
             .map(unborn)
-            .max_by_key(|first| first.places.len());
+            .max_by_key(|first| (first.pairs(), first.places.len()));
         let mut fixed = Fixed {
             input: Vec::new(),
             lines: 0,
             coverage: Coverage::new(),
         };
         first.into_iter().for_each(|first| fixed.take(first));
+        fixed.take(quarrel());
         let mut pool: Vec<Candidate> = (0..POOL).map(history).collect();
         while fixed.lines < lines {
             let Some(best) = fixed.best(&pool, lines - fixed.lines) else {
@@ -73,7 +86,10 @@ impl Fixed {
     fn best(&self, pool: &[Candidate], room: u64) -> Option<usize> {
         let counts: Vec<u64> = self.coverage.counts().collect();
         let gain = |candidate: &Candidate| {
-            let value = |place: &usize| 1_000_000u64 >> (4 * counts[*place]).min(20);
+            let value = |place: &usize| match counts[*place] {
+                0 => 50_000_000,
+                count => 1_000_000u64 >> (4 * count).min(20),
+            };
             let sum: u64 = candidate.places.iter().map(value).sum();
             sum / (candidate.lines * 60 + candidate.input.len() as u64)
         };
@@ -97,6 +113,13 @@ impl Fixed {
 fn unborn(number: u64) -> Candidate {
     let mut generator = Generator::new(Random::part(!SEED, number));
     generator.unborn(UNBORN);
+    candidate(generator)
+}
+
+/// A history in which a count of 8 bits would begin anew.
+fn quarrel() -> Candidate {
+    let mut generator = Generator::new(Random::new(SEED));
+    generator.quarrel(QUARREL);
     candidate(generator)
 }
 

@@ -74,15 +74,20 @@ fn spoil_length(random: &mut Random, bytes: &mut Vec<u8>) {
     bytes.truncate(length);
 }
 
-/// Changes one of the eight bytes that a packet begins with.
+/// Changes one of the eight bytes that a packet begins with, or the last two.
 fn spoil_header(random: &mut Random, bytes: &mut [u8]) {
-    let place = random.index(9);
+    let place = random.index(12);
     let Some(byte) = bytes.get_mut(place.min(7)) else {
         return;
     };
     *byte = match place {
         7 => 0,
         8 => 3,
+        9 => random.pick(&[4, 5, 6, 8, 9, 129, 130, 255]),
+        10 | 11 => random.byte(),
         _ => *byte ^ (1 << random.below(8)),
     };
+    if place == 6 || place == 11 {
+        bytes[6] = random.byte();
+    }
 }

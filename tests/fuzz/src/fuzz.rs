@@ -7,7 +7,7 @@ use crate::batch::Batch;
 use crate::compare::{Difference, differ};
 use crate::coverage::Coverage;
 use crate::cuts;
-use crate::program::Program;
+use crate::program::{PATIENCE, Program};
 use crate::report::{Finding, find_shortest};
 
 /// A run of at least this many lines has to reach every place.
@@ -63,7 +63,7 @@ fn whole(run: &mut Run, program: &dyn Program, batch: &Batch, seed: u64) -> Batc
     let number = run.batches + 1;
     let (next, found) = thread::scope(|scope| {
         let next = scope.spawn(move || Batch::new(seed, number));
-        let found = differ(program, &batch.input, &batch.pieces);
+        let found = differ(program, &batch.input, &batch.pieces, PATIENCE);
         (next.join().expect("a batch can be made"), found)
     });
     if let Some(difference) = found {
@@ -75,12 +75,12 @@ fn whole(run: &mut Run, program: &dyn Program, batch: &Batch, seed: u64) -> Batc
     next
 }
 
-/// A short history, ended after each byte.
+/// A short history, ended after each byte and cut in two there.
 fn endings(run: &mut Run, program: &dyn Program, seed: u64) {
     let input = cuts::short_history(seed, run.batches / 40);
-    let found = cuts::at_each_byte(program, &input, &mut run.coverage);
-    if let Some((beginning, difference)) = found {
-        run.finding = Some(shortest(program, beginning, &[], difference));
+    if let Some(cut) = cuts::at_each_byte(program, &input, &mut run.coverage) {
+        let found = shortest(program, cut.input, &cut.pieces, cut.difference);
+        run.finding = Some(found);
     }
 }
 

@@ -13,7 +13,7 @@ use crate::mutate::{MUTATIONS, Need};
 use crate::observe;
 use crate::places::Part;
 use crate::random::Random;
-use crate::temper::{Sort, Temper};
+use crate::temper::{Opening, Sort, Temper};
 use crate::values;
 
 pub struct Generator {
@@ -46,16 +46,90 @@ impl Generator {
 
     /// An accepted fresh and this many lines after it.
     pub fn history(&mut self, lines: u64) {
-        self.temper = Temper::new(&mut self.random);
-        let hardware = values::own_hardware(&mut self.random);
-        self.say(&Call::Fresh { hardware }, None);
-        let time = self.temper.start;
-        self.say(&Call::Tick { time, draw: 0 }, None);
+        let temper = Temper::new(&mut self.random);
+        self.begin(temper);
         for _ in 0..lines {
             self.line();
             if self.book.latest == RANGE_END && self.random.once_in(40) {
                 return;
             }
+        }
+    }
+
+    /// A history whose first claim meets this many conflicts in use.
+    pub fn quarrel(&mut self, conflicts: u64) {
+        let mut temper = Temper::new(&mut self.random);
+        temper.start = 0;
+        temper.opening = Opening::Conflicts(conflicts);
+        self.begin(temper);
+    }
+
+    /// An accepted fresh, and what the temper does first.
+    fn begin(&mut self, temper: Temper) {
+        self.temper = temper;
+        let hardware = values::own_hardware(&mut self.random);
+        self.say(&Call::Fresh { hardware }, None);
+        let time = self.temper.start;
+        match self.temper.opening {
+            Opening::Tick => self.say(&Call::Tick { time, draw: 0 }, None),
+            Opening::Losses => {
+                for _ in 0..10 {
+                    self.claim(time, 1);
+                    self.conflict();
+                }
+            }
+            Opening::Conflicts(count) => {
+                self.claim(time, 3);
+                while let Some(time) = self.book.next_deadline().filter(|time| *time <= RANGE_END) {
+                    self.say(&Call::Tick { time, draw: 0 }, None);
+                }
+                for _ in 0..count {
+                    self.conflict();
+                }
+                self.claim(self.book.latest, 3);
+            }
+        }
+    }
+
+    fn claim(&mut self, time: u64, policy: u64) {
+        let address = values::address(&mut self.random);
+        let call = Call::Ask {
+            time,
+            address,
+            policy,
+            draw: 0,
+        };
+        self.say(&call, None);
+    }
+
+    /// A conflict for the record in the lowest slot.
+    fn conflict(&mut self) {
+        let Some(record) = self.book.held().next().copied() else {
+            return;
+        };
+        if let Some((call, met)) = choose::claimed(&mut self.random, &self.book, record) {
+            self.say(&call, Some(met));
+        }
+    }
+
+    /// At least 70,000 lines of 0 to 3 bytes, the first 60,000 of them empty: so
+    /// many that one piece of 32 KiB is nearly all of them.
+    pub fn short_lines(&mut self) {
+        let wanted = self.lines + self.random.between(70_000, 90_000);
+        let mut most = 0;
+        let mut left = 60_000;
+        while self.lines < wanted {
+            if left == 0 {
+                most = self.random.below(4);
+                left = self.random.between(1, 10_000);
+            }
+            left -= 1;
+            let start = self.input.len();
+            for _ in 0..self.random.between(0, most) {
+                let byte = self.random.pick(b"\t\r 0123456789abcdefkpst\x00\xff");
+                self.input.push(byte);
+            }
+            self.answer_from(start);
         }
     }
 

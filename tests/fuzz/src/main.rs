@@ -4,16 +4,12 @@ use std::fs;
 use std::io::{self, Write};
 use std::path::{Path, PathBuf};
 use std::process::ExitCode;
-use std::time::Duration;
 
 use fuzz::args::{self, Task};
 use fuzz::fixed::Fixed;
-use fuzz::fuzz::{Bounds, Run, run};
+use fuzz::fuzz::{Bounds, LINES_FOR_ALL_PLACES, Run, run};
 use fuzz::program::OnDisk;
 use fuzz::report;
-
-/// A program that takes longer than this for one batch hangs.
-const PATIENCE: Duration = Duration::from_secs(20);
 
 fn main() -> ExitCode {
     let args = match args::read(std::env::args().skip(1)) {
@@ -41,11 +37,11 @@ fn fuzz_program(program: PathBuf, bounds: &Bounds) -> ExitCode {
         eprintln!("Build it with `rt check replay`, or name another with --replay PROGRAM.");
         return ExitCode::from(2);
     }
-    let program = OnDisk {
-        program,
-        patience: PATIENCE,
-    };
-    let run = run(&program, bounds);
+    let run = run(&OnDisk { program }, bounds);
+    if run.batches == 0 {
+        eprintln!("Nothing was compared: with these bounds not one batch is run.");
+        return ExitCode::from(2);
+    }
     print!("{}", run.coverage.text());
     summary(&run, bounds.seed)
 }
@@ -70,6 +66,9 @@ fn summary(run: &Run, seed: u64) -> ExitCode {
     let missed = run.missed();
     for place in &missed {
         println!("not reached: {place}");
+    }
+    if run.lines < LINES_FOR_ALL_PLACES {
+        println!("places not judged: fewer than 200,000 lines");
     }
     if missed.is_empty() {
         println!("no difference");

@@ -16,10 +16,11 @@ pub enum Meeting {
     TargetOnly,
     ZeroAddresses,
     Unrelated,
+    ProbeElsewhere,
 }
 
 impl Meeting {
-    pub const ALL: [(Meeting, &'static str); 11] = [
+    pub const ALL: [(Meeting, &'static str); 12] = [
         (Meeting::OtherRequest, "sender IP, other's hardware, op 1"),
         (Meeting::OtherReply, "sender IP, other's hardware, op 2"),
         (Meeting::OurRequest, "sender IP, our hardware, op 1"),
@@ -31,6 +32,7 @@ impl Meeting {
         (Meeting::TargetOnly, "target IP only"),
         (Meeting::ZeroAddresses, "both IPs zero"),
         (Meeting::Unrelated, "unrelated"),
+        (Meeting::ProbeElsewhere, "other's probe elsewhere"),
     ];
 }
 
@@ -38,7 +40,7 @@ impl Meeting {
 pub struct Around {
     pub own: Hardware,
     pub other: Hardware,
-    /// An address that nobody claims here.
+    /// An address that nobody claims here, maybe near to a claimed one.
     pub elsewhere: Address,
     /// A target, held or not.
     pub target: Address,
@@ -67,6 +69,7 @@ pub fn frame(meeting: Meeting, address: Address, around: &Around) -> Vec<u8> {
         Meeting::TargetOnly => bytes(1, other, elsewhere, target_hardware, address),
         Meeting::ZeroAddresses => bytes(1, other, zero, target_hardware, zero),
         Meeting::Unrelated => bytes(2, other, elsewhere, target_hardware, elsewhere),
+        Meeting::ProbeElsewhere => bytes(1, other, zero, target_hardware, elsewhere),
     }
 }
 

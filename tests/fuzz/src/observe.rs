@@ -9,7 +9,10 @@ use crate::coverage::Coverage;
 use crate::meeting::Meeting;
 use crate::places::{Part, REFUSALS};
 use crate::reasons::{HEAD, PAIRS, reasons};
-use crate::values::{ADDRESSES, DRAWS, HARDWARE};
+use crate::values::{ADDRESSES, DRAWS, HARDWARE, WRAP};
+
+const WRAP_AND_10_000: u64 = WRAP + 10_000;
+const WRAP_AND_60_000: u64 = WRAP + 60_000;
 
 pub fn answer(coverage: &mut Coverage, answer: Answer) {
     match answer {
@@ -50,6 +53,9 @@ pub fn call(coverage: &mut Coverage, book: &Book, call: &Call, answer: Answer) {
             if book.own.is_some() {
                 ask_after_request(coverage, book, *time);
             }
+            if answer == Answer::Refused(12) {
+                refused_12(coverage, book);
+            }
             if accepted.is_some() {
                 drawn(coverage, 0, *draw);
             }
@@ -62,11 +68,27 @@ pub fn call(coverage: &mut Coverage, book: &Book, call: &Call, answer: Answer) {
                 }
             }
         }
-        Call::Packet { bytes, .. } => packet(coverage, bytes),
+        Call::Packet { bytes, .. } => packet(coverage, book, bytes),
         Call::Drop { .. } => {}
     }
     if accepted.is_some() {
         coverage.hit(Part::InUse, book.held().count());
+        clock(coverage, book, call);
+    }
+}
+
+/// An accepted call's step over a power of two on which a clock may wrap.
+fn clock(coverage: &mut Coverage, book: &Book, call: &Call) {
+    let Some(time) = call.time() else { return };
+    let passes = |edge: u64| book.latest < edge && edge <= time;
+    if time - book.latest >= WRAP {
+        coverage.hit(Part::Times, 22);
+    } else if passes(1 << 31) {
+        coverage.hit(Part::Times, 19);
+    } else if passes(WRAP) {
+        coverage.hit(Part::Times, 20);
+    } else if book.latest / WRAP != time / WRAP {
+        coverage.hit(Part::Times, 21);
     }
 }
 
@@ -125,7 +147,17 @@ fn ask_after_request(coverage: &mut Coverage, book: &Book, time: u64) {
         (10, 60_001) => coverage.hit(Part::Rate, 6),
         (10, 0) => coverage.hit(Part::Rate, 7),
         (9, 0..60_000) => coverage.hit(Part::Rate, 8),
+        (10, WRAP..WRAP_AND_60_000) => coverage.hit(Part::Rate, 9),
         _ => {}
+    }
+}
+
+fn refused_12(coverage: &mut Coverage, book: &Book) {
+    if book.all_conflicts >= 256 {
+        coverage.hit(Part::Rate, 10);
+    }
+    if book.request == Some(0) {
+        coverage.hit(Part::Rate, 11);
     }
 }
 
@@ -175,7 +207,7 @@ fn several_due(coverage: &mut Coverage, book: &Book, time: u64, earliest: u64) {
     }
 }
 
-fn packet(coverage: &mut Coverage, bytes: &[u8]) {
+fn packet(coverage: &mut Coverage, book: &Book, bytes: &[u8]) {
     let length = match bytes.len() {
         0 => 0,
         1..=26 => 1,
@@ -193,11 +225,27 @@ fn packet(coverage: &mut Coverage, bytes: &[u8]) {
         (None, 0, 0) => Some(14),
         (None, 0, 1 | 2) => Some(16),
         (None, 0, 3) => Some(15),
-        (None, 0, _) => None,
+        (None, 0, _) => Some(17),
         (None, _, _) => Some(13),
     };
     if let Some(row) = header {
         coverage.hit(Part::Packets, row);
+    }
+    if header == Some(16) {
+        near(coverage, book, bytes);
+    }
+}
+
+/// Counts IPs of which one bit is other than a claim's.
+fn near(coverage: &mut Coverage, book: &Book, bytes: &[u8]) {
+    for (start, row) in [(14, 18), (24, 19)] {
+        let bits = |address: Address| -> u32 {
+            let pairs = address.iter().zip(&bytes[start..]);
+            pairs.map(|(one, other)| (one ^ other).count_ones()).sum()
+        };
+        if book.held().any(|record| bits(record.address) == 1) {
+            coverage.hit(Part::Packets, row);
+        }
     }
 }
 
@@ -242,6 +290,9 @@ fn interval(coverage: &mut Coverage, met: &Met, time: u64) {
         .position(|known| *known == apart);
     if let Some(row) = exact {
         coverage.hit(Part::Intervals, before * 4 + row);
+    }
+    if (WRAP..WRAP_AND_10_000).contains(&apart) && met.record.policy >= 2 {
+        coverage.hit(Part::Intervals, 17 + met.record.policy as usize);
     }
     let row = if apart < 9_999 { Some(0) } else { exact };
     if let (Some(row), true) = (row, last.stage != met.record.stage) {

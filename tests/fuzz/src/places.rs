@@ -36,7 +36,7 @@ pub const BEFORE_INTERVALS: [&str; 3] = [
     "policy 3 after defend,",
     "policy 3 after kept,",
 ];
-pub const OTHER_INTERVALS: [&str; 7] = [
+pub const OTHER_INTERVALS: [&str; 9] = [
     "announced, then settled, under 9,999",
     "announced, then settled, 9,999",
     "announced, then settled, 10,000",
@@ -44,8 +44,10 @@ pub const OTHER_INTERVALS: [&str; 7] = [
     "under 10,000 from the slot's use before, policy 1",
     "the same, policy 2",
     "the same, policy 3",
+    "2^32 and under 10,000 apart, policy 2",
+    "2^32 and under 10,000 apart, policy 3",
 ];
-pub const RATE: [&str; 9] = [
+pub const RATE: [&str; 12] = [
     "tenth conflict lost",
     "tenth conflict defend",
     "tenth conflict kept",
@@ -55,6 +57,9 @@ pub const RATE: [&str; 9] = [
     "ask 60,001 ms after",
     "ask 0 ms after",
     "ask soon after the request with 9 conflicts",
+    "ask 2^32 and under 60,000 ms after the request",
+    "refused after 256 conflicts or more",
+    "refused with the request at time 0",
 ];
 pub const LATENESS: [&str; 4] = [
     "one before the deadline",
@@ -72,7 +77,13 @@ pub const OVERDUE: [&str; 7] = [
     "nothing waited for",
 ];
 pub const TIMES: [&str; 4] = ["2^48 - 1", "2^48", "2^64 - 1", "one before the latest"];
-pub const PACKETS: [&str; 17] = [
+pub const CLOCK: [&str; 4] = [
+    "clock passes 2^31",
+    "clock passes 2^32",
+    "clock passes another multiple of 2^32",
+    "2^32 and more in one step",
+];
+pub const PACKETS: [&str; 20] = [
     "0 bytes",
     "1 to 26 bytes",
     "27 bytes",
@@ -90,6 +101,9 @@ pub const PACKETS: [&str; 17] = [
     "operation 0",
     "operation 3",
     "operation 1 or 2",
+    "operation 4 to 255",
+    "sender IP one bit from a claimed one",
+    "target IP one bit from a claimed one",
 ];
 pub const FRESHES: [&str; 10] = [
     "hardware zero",
@@ -104,7 +118,7 @@ pub const FRESHES: [&str; 10] = [
     "refused with a claim open",
 ];
 pub const BEFORE: [&str; 5] = ["malformed", "ask", "tick", "packet", "drop"];
-pub const CUTS: [&str; 9] = [
+pub const CUTS: [&str; 11] = [
     "inputs in pieces",
     "pieces",
     "pieces of 1 byte",
@@ -114,4 +128,6 @@ pub const CUTS: [&str; 9] = [
     "last lines unended, in the form",
     "last lines unended, malformed",
     "last lines unended, too long",
+    "inputs in two pieces, cut at a byte",
+    "over 262,144 bytes of answers to 69,632 bytes of input",
 ];

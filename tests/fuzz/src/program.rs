@@ -1,11 +1,25 @@
 //! A replay program under test.
 
-use std::io::{Read, Write};
+use std::io::{self, Read, Write};
+use std::os::fd::OwnedFd;
+use std::os::unix::net::UnixDatagram;
 use std::path::PathBuf;
 use std::process::{Child, Command, Stdio};
 use std::sync::mpsc;
 use std::thread;
 use std::time::{Duration, Instant};
+
+/// A program that takes longer than this for one batch hangs.
+pub const PATIENCE: Duration = Duration::from_secs(20);
+
+/// The same while a difference is shrunk.
+pub const SHORT_PATIENCE: Duration = Duration::from_secs(2);
+
+/// What each piece may take besides.
+const PIECE_TIME: Duration = Duration::from_micros(50);
+
+/// No piece is longer: a program with a smaller buffer would lose bytes.
+pub const PIECE_MOST: usize = 32_768;
 
 /// What a program did with an input.
 #[derive(Clone, Debug, Default, PartialEq, Eq)]
@@ -18,41 +32,87 @@ pub struct Outcome {
 
 pub trait Program: Sync {
     /// Feeds the input in pieces of these lengths, or at once if there are
-    /// none, and waits for the end.
-    fn run(&self, input: &[u8], pieces: &[usize]) -> Outcome;
+    /// none, and waits this long for the end.
+    fn run(&self, input: &[u8], pieces: &[usize], patience: Duration) -> Outcome;
 }
 
 /// A program on disk, run as a child process.
 pub struct OnDisk {
     pub program: PathBuf,
-    /// How long it may take to end.
-    pub patience: Duration,
 }
 
 impl Program for OnDisk {
-    fn run(&self, input: &[u8], pieces: &[usize]) -> Outcome {
-        let piped = Command::new(&self.program)
-            .stdin(Stdio::piped())
-            .stdout(Stdio::piped())
-            .stderr(Stdio::piped())
-            .spawn();
-        match piped {
-            Ok(child) => talk(child, input, pieces, self.patience),
-            Err(error) => Outcome {
-                trouble: format!("did not start: {error}"),
-                ..Outcome::default()
-            },
-        }
+    fn run(&self, input: &[u8], pieces: &[usize], patience: Duration) -> Outcome {
+        let patience = patience + PIECE_TIME * pieces.len() as u32;
+        let outcome = if pieces.is_empty() {
+            self.at_once(input, patience)
+        } else {
+            self.in_pieces(input, pieces, patience)
+        };
+        outcome.unwrap_or_else(|error| Outcome {
+            trouble: format!("did not start: {error}"),
+            ..Outcome::default()
+        })
     }
 }
 
+impl OnDisk {
+    /// Through a pipe.
+    fn at_once(&self, input: &[u8], patience: Duration) -> io::Result<Outcome> {
+        let mut child = self.start(Stdio::piped())?;
+        let stdin = child.stdin.take();
+        let feed = || {
+            if let Some(mut pipe) = stdin {
+                // A program that has gone is noticed elsewhere.
+                let _ = pipe.write_all(input);
+            }
+        };
+        Ok(talk(child, feed, patience))
+    }
+
+    /// Through a socket that keeps each piece apart: one read gets one piece.
+    fn in_pieces(&self, input: &[u8], pieces: &[usize], patience: Duration) -> io::Result<Outcome> {
+        let (ours, theirs) = UnixDatagram::pair()?;
+        ours.set_write_timeout(Some(patience))?;
+        let child = self.start(Stdio::from(OwnedFd::from(theirs)))?;
+        let feed = || {
+            let _ = send(&ours, input, pieces);
+        };
+        Ok(talk(child, feed, patience))
+    }
+
+    fn start(&self, stdin: Stdio) -> io::Result<Child> {
+        Command::new(&self.program)
+            .stdin(stdin)
+            .stdout(Stdio::piped())
+            .stderr(Stdio::piped())
+            .spawn()
+    }
+}
+
+/// Sends each piece by itself, then an empty one: the end of the input.
+fn send(socket: &UnixDatagram, input: &[u8], pieces: &[usize]) -> io::Result<()> {
+    let mut rest = input;
+    for piece in pieces {
+        let (now, later) = rest.split_at((*piece).min(rest.len()));
+        for part in now.chunks(PIECE_MOST) {
+            socket.send(part)?;
+        }
+        rest = later;
+    }
+    for part in rest.chunks(PIECE_MOST) {
+        socket.send(part)?;
+    }
+    socket.send(&[])?;
+    Ok(())
+}
+
 /// Writes and reads at the same time, so that neither side waits for ever.
-fn talk(mut child: Child, input: &[u8], pieces: &[usize], patience: Duration) -> Outcome {
-    let stdin = child.stdin.take();
+fn talk(mut child: Child, feed: impl FnOnce() + Send, patience: Duration) -> Outcome {
     let stdout = child.stdout.take();
     let stderr = child.stderr.take();
     thread::scope(|scope| {
-        scope.spawn(move || stdin.map(|pipe| feed(pipe, input, pieces)));
+        scope.spawn(feed);
         let (ended, end) = mpsc::channel();
         let output = scope.spawn(move || {
             let bytes = read(stdout);
@@ -70,23 +130,6 @@ fn talk(mut child: Child, input: &[u8], pieces: &[usize], patience: Duration) ->
             errors,
         }
     })
-}
-
-/// Writes each piece by itself. A program that has gone is noticed elsewhere.
-fn feed(mut pipe: impl Write, input: &[u8], pieces: &[usize]) {
-    if pieces.is_empty() {
-        let _ = pipe.write_all(input);
-        return;
-    }
-    let mut rest = input;
-    for piece in pieces {
-        let (now, later) = rest.split_at((*piece).min(rest.len()));
-        if pipe.write_all(now).and_then(|()| pipe.flush()).is_err() {
-            return;
-        }
-        thread::yield_now();
-        rest = later;
-    }
 }
 
 fn read(pipe: Option<impl Read>) -> Vec<u8> {

@@ -4,7 +4,7 @@ use std::fmt::Write;
 use std::time::{Duration, Instant};
 
 use crate::compare::{Difference, differ};
-use crate::program::Program;
+use crate::program::{Program, SHORT_PATIENCE};
 use crate::shrink::shrink;
 
 /// A difference and the shortest input found that shows it.
@@ -27,13 +27,14 @@ pub fn find_shortest(
     time: Duration,
 ) -> Finding {
     let until = Instant::now() + time;
-    if differ(program, input, &[]).is_some() {
+    let differs = |pieces: &[usize]| differ(program, input, pieces, SHORT_PATIENCE).is_some();
+    if differs(&[]) {
         return shortest(program, input, until, difference, |_| Vec::new());
     }
-    if differ(program, input, &vec![1; input.len()]).is_some() {
+    if differs(&vec![1; input.len()]) {
         return shortest(program, input, until, difference, |length| vec![1; length]);
     }
-    let shown_again = differ(program, input, pieces).is_some();
+    let shown_again = differs(pieces);
     Finding {
         input: input.to_vec(),
         pieces: pieces.to_vec(),
@@ -49,12 +50,13 @@ fn shortest(
     difference: Difference,
     pieces: fn(usize) -> Vec<usize>,
 ) -> Finding {
-    let mut differs = |input: &[u8]| differ(program, input, &pieces(input.len())).is_some();
+    let again = |input: &[u8]| differ(program, input, &pieces(input.len()), SHORT_PATIENCE);
+    let mut differs = |input: &[u8]| again(input).is_some();
     let start = up_to_line(input, difference.line);
     let start = if differs(start) { start } else { input };
     let input = shrink(start, &mut differs, until);
+    let again = again(&input);
     let pieces = pieces(input.len());
-    let again = differ(program, &input, &pieces);
     let shown_again = again.is_some();
     Finding {
         input,
@@ -84,7 +86,8 @@ pub fn text(finding: &Finding, seed: u64, file: &str) -> String {
     let mut text = String::new();
     let _ = writeln!(
         text,
-        "A DIFFERENCE, seed {seed}. Shortest history found, saved as {file}:"
+        "A DIFFERENCE, seed {seed}. Shortest history found, saved as {file}; \
+         its difference may be another than the one met first:"
     );
     for line in input.split_inclusive(|byte| *byte == b'\n') {
         let _ = writeln!(text, "    {}", escaped(line));

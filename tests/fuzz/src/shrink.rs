@@ -23,6 +23,9 @@ pub fn shrink(input: &[u8], differs: &mut Differs, until: Instant) -> Vec<u8> {
         pairs(&mut lines, differs, until);
         earlier(&mut lines, differs);
         for number in 0..lines.len() {
+            if Instant::now() > until {
+                break;
+            }
             simpler_line(&mut lines, number, differs, until);
         }
         if lines.concat() == before || Instant::now() > until {

@@ -5,6 +5,7 @@ use std::ops::RangeInclusive;
 
 use crate::book::{ANNOUNCED, RANGE_END, SETTLED};
 use crate::random::Random;
+use crate::values::WRAP;
 
 /// The sorts of lines, in the order of `Temper::weights`.
 #[derive(Clone, Copy, PartialEq, Eq)]
@@ -43,6 +44,17 @@ pub struct Temper {
     pub stages: RangeInclusive<usize>,
     /// The time at which the history begins.
     pub start: u64,
+    pub opening: Opening,
+}
+
+/// What a history does first.
+#[derive(Clone, Copy, PartialEq, Eq)]
+pub enum Opening {
+    Tick,
+    /// Ten claims, each lost at once.
+    Losses,
+    /// A claim in use that meets this many conflicts.
+    Conflicts(u64),
 }
 
 impl Temper {
@@ -60,10 +72,19 @@ impl Temper {
             6..=8 => 0..=SETTLED,
             _ => ANNOUNCED..=SETTLED,
         };
-        let start = match random.below(16) {
+        let opening = match random.below(200) {
+            0 => Opening::Conflicts(256 * random.between(1, 3) + random.below(10)),
+            1..=16 => Opening::Losses,
+            _ => Opening::Tick,
+        };
+        let start = match random.below(20) {
             0 | 1 => RANGE_END - random.below(150_000),
             2 => RANGE_END - random.below(400),
             3..=5 => random.word() >> random.between(16, 63),
+            6 => (1 << 31) - random.below(20_000),
+            7 => WRAP - random.below(20_000),
+            8 => WRAP * random.between(2, 65_535) - random.below(20_000),
+            9..=11 => 0,
             _ => random.below(5000),
         };
         Temper {
@@ -71,6 +92,7 @@ impl Temper {
             policy,
             stages,
             start,
+            opening,
         }
     }
 

