@@ -40,7 +40,7 @@ fn over(stream: Stream) -> Turn
 fn write(out: &[u8], count: usize) -> bool {
     let written = io::write_all(STDOUT_FILENO, fields::start(out, count));
     if !written {
-        os::fail(b"replay: standard output was not written");
+        os::fail(b"replay: stopped: cannot write standard output");
     }
     written
 }
@@ -107,7 +107,7 @@ fn read_more(stream: Stream, input: &mut [u8], held: usize, out: &mut [u8]) -> T
 {
     let got = read(input, held);
     if got.failed {
-        os::fail(b"replay: standard input was not read");
+        os::fail(b"replay: stopped: cannot read standard input");
         over(stream)
     } else if got.ended {
         end(stream, input, held, out)
