@@ -4,14 +4,20 @@ import os
 import platform
 import shutil
 import subprocess
+import sys
 from pathlib import Path
+
+
+def refuse(text):
+    print(f"mutation: {text}", file=sys.stderr)
+    raise SystemExit(2)
 
 
 class Kit:
     def __init__(self):
         rt = shutil.which("rt")
         if not rt and "RATTLE_HOME" not in os.environ:
-            raise SystemExit("mutation: no rt on the path")
+            refuse("rt is not found; put the Rattle toolchain on PATH")
         self.home = Path(os.environ.get("RATTLE_HOME") or Path(rt).resolve().parent.parent)
         self.own = self.home / "on" / platform.machine()
         self.tools = self.own / "toolchain"

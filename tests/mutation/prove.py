@@ -65,7 +65,7 @@ class Prover:
         return verdict, why
 
     def is_same_code(self, mutant):
-        """Whether the crate is lowered to the same code."""
+        """Whether the crate compiles to the same intermediate code."""
         plain = self.mirs.get(mutant.crate) or self._mir(mutant.crate, self.repository.root_file(mutant.crate))
         self.mirs[mutant.crate] = plain
         return self._mir(mutant.crate, self.edited(mutant)) == plain

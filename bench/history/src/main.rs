@@ -7,24 +7,24 @@
 mod random;
 mod ward;
 
-use std::io::{self, BufWriter, Write};
+use std::io::{self, BufWriter, ErrorKind, Write};
 use std::process::ExitCode;
 
 use ward::Ward;
 
 fn main() -> ExitCode {
-    let options: Vec<u64> = std::env::args()
-        .skip(1)
-        .map_while(|word| word.parse().ok())
-        .collect();
-    let &[lines, seed] = options.as_slice() else {
-        eprintln!("usage: history LINES SEED");
-        return ExitCode::FAILURE;
+    let words = std::env::args().skip(1);
+    let options: Result<Vec<u64>, _> = words.map(|word| word.parse()).collect();
+    let Ok(&[lines, seed]) = options.as_deref() else {
+        eprintln!("usage: history LINES SEED (two whole numbers)");
+        return ExitCode::from(2);
     };
     match write(lines, seed) {
         Ok(()) => ExitCode::SUCCESS,
+        // Nobody reads the lines any more: there is nothing left to do.
+        Err(error) if error.kind() == ErrorKind::BrokenPipe => ExitCode::SUCCESS,
         Err(error) => {
-            eprintln!("history: {error}");
+            eprintln!("history: cannot write standard output: {error}");
             ExitCode::FAILURE
         }
     }

@@ -7,10 +7,12 @@ use crate::fixed;
 use crate::fuzz::Bounds;
 
 pub const USAGE: &str = "\
-usage: run [--seconds S] [--lines N] [--seed N] [--replay PROGRAM]
-       run --fixed N [--answers | --check LINES ANSWERS]";
+usage: tests/fuzz/run [--seconds S] [--lines N] [--seed N] [--replay PROGRAM]
+       tests/fuzz/run --fixed N [--answers | --check LINES ANSWERS]
+       tests/fuzz/run --help";
 
 pub enum Task {
+    Help,
     Fuzz(Bounds),
     PrintLines(u64),
     PrintAnswers(u64),
@@ -37,21 +39,24 @@ pub fn read(mut words: impl Iterator<Item = String>) -> Result<Args, String> {
     let mut fixed_lines = None;
     let mut answers = false;
     let mut check = None;
+    let mut help = false;
     while let Some(word) = words.next() {
         let mut value = || words.next().ok_or(format!("{word} lacks its value"));
         match word.as_str() {
-            "--seconds" => bounds.time = Duration::from_secs(number(&value()?)?),
-            "--lines" => bounds.lines = number(&value()?)?,
-            "--seed" => bounds.seed = number(&value()?)?,
+            "--seconds" => bounds.time = Duration::from_secs(number(&word, &value()?)?),
+            "--lines" => bounds.lines = number(&word, &value()?)?,
+            "--seed" => bounds.seed = number(&word, &value()?)?,
             "--replay" => replay = PathBuf::from(value()?),
-            "--fixed" => fixed_lines = Some(number(&value()?)?),
+            "--fixed" => fixed_lines = Some(number(&word, &value()?)?),
             "--answers" => answers = true,
             "--check" => check = Some((PathBuf::from(value()?), PathBuf::from(value()?))),
-            _ => return Err(format!("{word} isn't known")),
+            "--help" => help = true,
+            _ => return Err(format!("unknown option {word}")),
         }
     }
     let lines = fixed_lines.unwrap_or(fixed::LINES);
     let task = match check {
+        _ if help => Task::Help,
         Some((input, answers)) => Task::Check {
             lines,
             input,
@@ -64,8 +69,8 @@ pub fn read(mut words: impl Iterator<Item = String>) -> Result<Args, String> {
     Ok(Args { task, replay })
 }
 
-fn number(text: &str) -> Result<u64, String> {
+fn number(option: &str, text: &str) -> Result<u64, String> {
     text.replace([',', '_'], "")
         .parse()
-        .map_err(|_| format!("{text} isn't a number"))
+        .map_err(|_| format!("{option}: {text} is not a whole number"))
 }

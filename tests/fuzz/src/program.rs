@@ -4,7 +4,7 @@ use std::io::{self, Read, Write};
 use std::os::fd::OwnedFd;
 use std::os::unix::net::UnixDatagram;
 use std::path::PathBuf;
-use std::process::{Child, Command, Stdio};
+use std::process::{self, Child, Command, Stdio};
 use std::sync::mpsc;
 use std::thread;
 use std::time::{Duration, Instant};
@@ -49,10 +49,7 @@ impl Program for OnDisk {
         } else {
             self.in_pieces(input, pieces, patience)
         };
-        outcome.unwrap_or_else(|error| Outcome {
-            trouble: format!("did not start: {error}"),
-            ..Outcome::default()
-        })
+        outcome.unwrap_or_else(|error| self.not_started(&error))
     }
 }
 
@@ -87,6 +84,17 @@ impl OnDisk {
             .stdout(Stdio::piped())
             .stderr(Stdio::piped())
             .spawn()
+    }
+
+    /// Ends the fuzzer: that a program can't be started is no difference.
+    fn not_started(&self, error: &io::Error) -> ! {
+        let program = self.program.display();
+        // Written past eprintln, whose words a test would lose here.
+        let _ = writeln!(
+            io::stderr(),
+            "The program {program} could not be started: {error}"
+        );
+        process::exit(2)
     }
 }
 
