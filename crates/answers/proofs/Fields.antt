@@ -1,40 +1,23 @@
 -- How what the inner functions promise makes up an answer: a law for each field.
-use Prim.Native.Nat.{ℕ, _≤_}
+use Prim.Native.Nat.{ℕ}
 use mathlib.Core.Path.{_≡_, refl}
 use mathlib.Core.Bool.{Bool, true, false}
-use mathlib.Core.List.{List, [], _∷_, _++_}
+use mathlib.Core.List.{List, [], _∷_}
 use mathlib.Core.Option.{Option, none, some}
 use native.Mathlib.Omega.{arith}
 use lib.ListN.{length}
 use lib.Dec.{lit≤}
-use Rattle.rules.specs.Answers.{kindWord}
 use Rattle.rules.specs.declared.Kind.{Kind}
-use Rattle.rules.specs.declared.Kind.the-variants.{Fresh, Taken, Nothing, Probe, Announce, Defend, Lost, Kept, Dropped}
 use Rattle.lines.specs.Fields.{tab, newline}
 use Rattle.lines.specs.Numbers.{decimal, hexText}
-use Rattle.lines.specs.Answers.{okWord, refusedWord, dash, numberText, refusedText}
+use Rattle.lines.specs.Answers.{refusedWord, dash, numberText, refusedText}
 use Rattle.digits.specs.Parts.{Put}
 use Rattle.answers.specs.Parts.{sends, shown}
 use Rattle.lines.proofs.HexLaws.{hex-length}
-use Rattle.answers.proofs.Puts.{put-as, put-append}
-
-kind-within : (kind : Kind) → length (okWord ++ (tab ∷ kindWord kind)) ≤ 11
-unfolding kindWord
-kind-within Fresh = lit≤ tt
-kind-within Taken = lit≤ tt
-kind-within Nothing = lit≤ tt
-kind-within Probe = lit≤ tt
-kind-within Announce = lit≤ tt
-kind-within Defend = lit≤ tt
-kind-within Lost = lit≤ tt
-kind-within Kept = lit≤ tt
-kind-within Dropped = lit≤ tt
+use Rattle.kind_words.proofs.Laws.{put-as}
+use Rattle.answers.proofs.Puts.{put-append}
 
 module _ {m at next : ℕ} {old new : List ℕ} where
-  pub kind-put : {kind same : Kind} → kind ≡ same → Put (okWord ++ (tab ∷ kindWord same)) m at old new next →
-      Put (okWord ++ (tab ∷ kindWord kind)) 11 at old new next
-  kind-put {same = same} e p = rw e (put-as refl (kind-within same) p)
-
   pub none-put : {number : Option ℕ} → number ≡ none → Put (tab ∷ dash) m at old new next →
       Put (tab ∷ numberText number) 21 at old new next
   none-put e p = rw e (put-as refl (lit≤ tt) p)

@@ -16,12 +16,6 @@ sets-append l i [] b = rw (add-zero i)
 sets-append l i (x ∷ a) b =
     ap (λ (k : ℕ). sets (sets (set l i x) (suc i) a) k b) (omega arith) ∙ sets-append (set l i x) (suc i) a b
 
--- The same text by another name.
-pub put-as : {text same : List ℕ} {m n at next : ℕ} {old new : List ℕ} → text ≡ same → length same ≤ n → Put text m at old new next →
-    Put same n at old new next
-put-as {at = at} {old = old} e h p =
-    record { bytes = p .bytes ∙ ap (sets old at) e; place = p .place ∙ ap (λ (l : List ℕ). at + length l) e; within = h }
-
 -- One text after another.
 pub put-append : {a b : List ℕ} {m n at p q : ℕ} {old mid new : List ℕ} →
     Put a m at old mid p → Put b n p mid new q → Put (a ++ b) (m + n) at old new q

@@ -5,12 +5,12 @@ use rules::Refusal;
 use rules::SlotNumber;
 ghost use Prim.Native.Nat.{_+_, _≤_};
 ghost use mathlib.Core.Path.{_≡_};
-ghost use mathlib.Core.List.{[], _∷_, _++_};
-ghost use lib.ListN.{length, take};
-ghost use Rattle.rules.specs.Answers.{kindWord, slotOf, timeOf, refusalNumber};
+ghost use mathlib.Core.List.{[], _∷_};
+ghost use lib.ListN.{length};
+ghost use Rattle.rules.specs.Answers.{slotOf, timeOf, refusalNumber};
 ghost use Rattle.lines.specs.Fields.{tab, newline};
 ghost use Rattle.lines.specs.Numbers.{decimal};
-ghost use Rattle.lines.specs.Answers.{okWord, dash, numberText, refusedText, longestAnswer, written};
+ghost use Rattle.lines.specs.Answers.{dash, numberText, refusedText, longestAnswer, written};
 ghost use Rattle.digits.specs.Parts.{Put};
 ghost use Rattle.answers.specs.Parts.{shown, acceptedWith};
 ghost use Rattle.answers.specs.Parts.{sends as Parts·sends};
@@ -83,24 +83,6 @@ fn put_frame(kind: Kind, frame: &[u8; 28], out: &mut [u8], at: usize) -> usize
     }
 }
 
-// `ok` and the kind. Each kind puts a text of its own, whose length the compiler knows.
-fn put_kind(kind: Kind, out: &mut [u8]) -> usize
-    requires { ⌜ 11 ≤ length (now out) ⌝ }
-    ensures { λ r. ⌜ Put (okWord ++ (tab ∷ kindWord kind)) 11 0 (now (out .entry)) (now (out .exit)) r ⌝ }
-{
-    match kind {
-        Kind::Fresh => digits::put(b"ok\tfresh", out, 0),
-        Kind::Taken => digits::put(b"ok\ttaken", out, 0),
-        Kind::Nothing => digits::put(b"ok\tnone", out, 0),
-        Kind::Probe => digits::put(b"ok\tprobe", out, 0),
-        Kind::Announce => digits::put(b"ok\tannounce", out, 0),
-        Kind::Defend => digits::put(b"ok\tdefend", out, 0),
-        Kind::Lost => digits::put(b"ok\tlost", out, 0),
-        Kind::Kept => digits::put(b"ok\tkept", out, 0),
-        Kind::Dropped => digits::put(b"ok\tdropped", out, 0),
-    }
-}
-
 // The byte 10 that ends every answer.
 fn put_newline(out: &mut [u8], at: usize) -> usize
     requires { ⌜ at + 1 ≤ length (now out) ⌝ }
@@ -122,7 +104,7 @@ pub fn accepted(
     ensures { λ r. ⌜ r ≡ length (acceptedWith (record { kind = kind; slot = slotOf slot; next = timeOf next }) (shown kind (now (frame .entry)))) ⌝ }
     ensures { λ r. ⌜ now (out .exit) ≡ written (acceptedWith (record { kind = kind; slot = slotOf slot; next = timeOf next }) (shown kind (now (frame .entry)))) (now (out .entry)) ⌝ }
 {
-    let slot_at = put_kind(kind, out);
+    let slot_at = kind_words::put_kind(kind, out);
     let next_at = put_slot(slot, out, slot_at);
     let frame_at = put_next(next, out, next_at);
     let end = put_frame(kind, frame, out, frame_at);

@@ -1,9 +1,9 @@
--- `answers::put_kind`: each kind's word.
+-- `kind_words::put_kind`: each kind's word.
 use borrow.Author.Needs.{needs}
 use Rattle.rules.specs.Answers.{kindWord}
-use Rattle.answers.proofs.Fields.{kind-put}
-use Rattle.answers.proofs.put_kind.Statement.{statement}
-use Rattle.answers.proofs.put_kind.Tie as tie
+use Rattle.kind_words.proofs.Laws.{kind-put}
+use Rattle.kind_words.proofs.put_kind.Statement.{statement}
+use Rattle.kind_words.proofs.put_kind.Tie as tie
 
 pub put-kind-spec : {M : Type 1} → statement M
 unfolding kindWord

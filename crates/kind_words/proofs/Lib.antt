@@ -1,0 +1,2 @@
+-- What the function does, and a law that the crate answers needs too.
+pub mod Laws
