@@ -1,2 +1,2 @@
--- A decision carried out is the call's promise.
-pub mod Laws
+-- What the calls' proofs cite.
+mod Laws

@@ -1,2 +1,2 @@
--- What the functions' proofs cite.
+-- What the call's proof cites.
 mod Laws

@@ -26,7 +26,7 @@ use Rattle.machine.specs.Slots.{recordAt, lowest}
 use Rattle.machine.specs.Conflicts.{isConflict, countUp, response, recordAfter, defence, responseKind}
 use Rattle.machine.specs.Refusals.{stateAndTime, tickRefusal, packetRefusal}
 use Rattle.machine.specs.Calls.{nothing, respond, meet, packetOutcome}
-use Rattle.machine.proofs.Acceptance.{Admitted, tick-accepted, sound}
+use Rattle.machine.proofs.Acceptance.{tick-accepted, sound}
 use Rattle.admission.specs.declared.Check.{Check}
 use Rattle.admission.specs.declared.Check.the-variants as Check
 use Rattle.admission.specs.Parts.{checkOf, orElse}

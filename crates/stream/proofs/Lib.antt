@@ -1,4 +1,3 @@
 -- Laws that the functions' proofs cite.
-mod Moves
 mod Places
 mod Turns

@@ -1,34 +1,20 @@
--- What is left of a list from a place on, and a text written there.
-use Prim.Native.Nat.{ℕ, suc, _+_, _-_, _≤_}
-use mathlib.Core.Path.{_≡_, refl, ap, ap₂, sym, _∙_}
+-- A text written at a place of a list.
+use Prim.Native.Nat.{ℕ, suc, _+_, _≤_}
+use mathlib.Core.Path.{_≡_, refl, ap, sym, _∙_}
 use mathlib.Core.Bool.{not}
-use mathlib.Core.List.{List, [], _∷_, _++_, append-nil, append-assoc}
+use mathlib.Core.List.{List, [], _∷_, _++_, append-assoc}
 use borrow.Author.Tests.{lt-ltb}
 use native.Mathlib.Omega.{arith}
 use lib.Dec.{ltb}
-use lib.ListN.{length, take, drop, length-append, length-drop, drop-of-length-le}
-use lib.Seq.{take-all, length-take-le, take-at, drop-at}
+use lib.ListN.{length, take, drop, length-append}
+use lib.Seq.{length-take-le, take-at, drop-at}
 use Rattle.lines.specs.Numbers.{isEmpty}
-use Rattle.lines.specs.Answers.{written}
-use Rattle.stream.specs.Parts.{writtenAt}
+use Rattle.turns.specs.Parts.{writtenAt}
 
 -- The code's test for some bytes.
 pub some-left : (left : List ℕ) → ltb 0 (length left) ≡ not (isEmpty left)
 some-left [] = refl
 some-left (b ∷ left) = lt-ltb 0 (suc (length left)) (omega arith)
-
--- The part of a list from a place up to its end.
-pub rest-of : (at : ℕ) (l : List ℕ) → take (length l - at) (drop at l) ≡ drop at l
-rest-of at l = take-all (length l - at) (drop at l) (simp length-drop (omega arith))
-
--- A text written at the start of that part, and the part put back.
-pub put-back : (at : ℕ) (text out part : List ℕ)
-    → part ≡ written text (take (length out - at) (drop at out))
-    → take at out ++ (part ++ drop (length out - at) (drop at out)) ≡ writtenAt at text out
-put-back at text out part part-is =
-    let all : length (drop at out) ≤ length out - at = simp length-drop (omega arith) in
-    ap₂ (λ x y. take at out ++ (x ++ y)) (part-is ∙ ap (written text) (rest-of at out)) (drop-of-length-le (drop at out) all)
-    ∙ ap (λ l. take at out ++ l) (append-nil (written text (drop at out)))
 
 -- The buffer afterwards: what stood before the place and the text, then what stood behind.
 module _ (at : ℕ) (text out : List ℕ) (within : at ≤ length out) where

@@ -20,7 +20,7 @@ use Rattle.lines.proofs.AnswerLaws.{line-stays-sound}
 use Rattle.lines.proofs.FieldLaws.{first-length}
 use Rattle.lines.proofs.StreamLaws.{afterwards-nothing, afterwards-twice, lineDone, work-line, work-wait}
 use Rattle.stream.proofs.Places.{take-written, drop-written, has-room}
-use Rattle.stream.specs.Parts.{writtenAt}
+use Rattle.turns.specs.Parts.{writtenAt}
 
 -- What holds after some lines: how far the loop is in the input and in the out buffer, and that the whole work is what was
 -- written, then the work on the rest.
@@ -40,9 +40,6 @@ begins st input out =
       untouched = refl;
       so-far = sym (afterwards-nothing (work st input (length out))) ∙ ap (λ n. afterwards 0 [] (work st input n)) (omega arith);
     }
-
-pub is-known : (s : Interface) (known : Bool) → (known ≡ true → isSound s ≡ true) → known ≡ true → true ≡ isSound s
-is-known s known sure e = sym (sure e)
 
 -- A line that byte 10 ended comes next.
 line-next : (st : Stream) (line input : List ℕ) (room : ℕ)

@@ -1,6 +1,5 @@
 // A replay whose input arrives in pieces: the lines at hand are answered, and what is left of the input is to come again with the
 // next piece.
-use line::Replied;
 use lines::LONGEST_ANSWER;
 use lines::LONGEST_LINE;
 use lines::Stream;
@@ -8,16 +7,13 @@ use rules::HardwareAddress;
 use rules::Interface;
 use rules::Moment;
 use rules::Time;
-ghost use Prim.Native.Nat.{_+_, _≤_};
 ghost use mathlib.Core.Path.{_≡_};
-ghost use mathlib.Core.Bool.{true, cond};
-ghost use lib.ListN.{length, take, drop};
-ghost use Rattle.machine.specs.Interface.{isSound, zeros};
-ghost use Rattle.lines.specs.Fields.{newline, firstPart};
-ghost use Rattle.lines.specs.Answers.{longestAnswer, hasRoom, written};
+ghost use mathlib.Core.Bool.{cond};
+ghost use lib.ListN.{length};
+ghost use Rattle.machine.specs.Interface.{zeros};
+ghost use Rattle.lines.specs.Answers.{hasRoom, written};
 ghost use Rattle.lines.specs.Stream.{atLineStart, keptLength, kept};
 ghost use Rattle.lines.specs.Stream as Streams;
-ghost use Rattle.stream.specs.Parts.{lineEnd, writtenAt};
 
 // What a call of work did: the stream afterwards, how many bytes of the input are used up, how many were written, and whether it
 // waits for more input (else the out buffer was too short to go on).
@@ -51,51 +47,6 @@ pub fn begin() -> Stream
     }
 }
 
-// The line that begins at a place of the input, up to the next byte 10 or to the input's end.
-fn line_at(input: &[u8], at: usize) -> &[u8]
-    requires { ⌜ at ≤ length (now input) ⌝ }
-    ensures { λ r. ⌜ now r ≡ firstPart newline (drop at (now (input .entry))) ⌝ }
-{
-    fields::part(&input[at..], b'\n')
-}
-
-// Whether a state is sound, where it may be known already that it is. No call makes a sound state unsound, so the lines of an
-// input ask once.
-fn is_sound(state: Interface, known: bool) -> bool
-    requires { ⌜ (known ≡ true → isSound state ≡ true) ⌝ }
-    ensures { λ r. ⌜ r ≡ isSound state ⌝ }
-{
-    if known {
-        true
-    } else {
-        soundness::is_sound(state)
-    }
-}
-
-// A whole line answered, behind the answers that are there. "A line that is too long is one record up to its byte 10 and gives
-// one refusal."
-fn answer_at(
-    state: Interface,
-    sound: bool,
-    skipping: bool,
-    line: &[u8],
-    out: &mut [u8],
-    done: usize,
-) -> Replied
-    requires { ⌜ (sound ≡ isSound state) × (done + longestAnswer ≤ length (now out)) ⌝ }
-    ensures { λ r. ⌜ r .state ≡ lineEnd state skipping (now (line .entry)) .state ⌝ }
-    ensures { λ r. ⌜ r .written ≡ length (lineEnd state skipping (now (line .entry)) .text) ⌝ }
-    ensures { λ r. ⌜ now (out .exit) ≡ writtenAt done (lineEnd state skipping (now (line .entry)) .text) (now (out .entry)) ⌝ }
-{
-    let rest = &mut out[done..];
-    if skipping {
-        let written = line::malformed(rest);
-        Replied { state, written }
-    } else {
-        line::answer_line(state, sound, line, rest)
-    }
-}
-
 // Answers the lines of the input at hand, as far as there is room. What is not used up is to come again, before the bytes that
 // arrive next.
 pub fn work(stream: Stream, input: &[u8], out: &mut [u8]) -> Worked
@@ -111,7 +62,7 @@ pub fn work(stream: Stream, input: &[u8], out: &mut [u8]) -> Worked
     let mut done = 0;
     let mut sound = false;
     loop {
-        let line = line_at(input, at);
+        let line = turns::line_at(input, at);
         // No byte 10 is left.
         if line.len() == input.len() - at {
             let too_long = skipping | (LONGEST_LINE < line.len());
@@ -134,8 +85,8 @@ pub fn work(stream: Stream, input: &[u8], out: &mut [u8]) -> Worked
                 waiting: false,
             };
         }
-        sound = is_sound(state, sound);
-        let answered = answer_at(state, sound, skipping, line, out, done);
+        sound = turns::is_sound(state, sound);
+        let answered = turns::answer_at(state, sound, skipping, line, out, done);
         let next = answered.state;
         state = copies::interface(next);
         skipping = false;
@@ -157,7 +108,7 @@ pub fn finish(stream: Stream, left: &[u8], out: &mut [u8]) -> Finished
             written: 0,
         }
     } else if stream.skipping | (0 < left.len()) {
-        let written = line::malformed(out);
+        let written = replies::malformed(out);
         Finished {
             done: true,
             written,
@@ -167,19 +118,6 @@ pub fn finish(stream: Stream, left: &[u8], out: &mut [u8]) -> Finished
             done: true,
             written: 0,
         }
-    }
-}
-
-// The bytes from a place on moved to the start of a buffer. Each goes below where it comes from, so none is overwritten before it
-// is moved.
-fn move_to_start(buffer: &mut [u8], from: usize, count: usize)
-    requires { ⌜ from + count ≤ length (now buffer) ⌝ }
-    ensures { λ r. ⌜ now (buffer .exit) ≡ written (take count (drop from (now (buffer .entry)))) (now (buffer .entry)) ⌝ }
-{
-    let mut i = 0;
-    while i < count {
-        buffer[i] = buffer[from + i];
-        i += 1;
     }
 }
 
@@ -195,7 +133,7 @@ pub fn keep(buffer: &mut [u8], from: usize, to: usize) -> usize
         0
     } else {
         let count = to - from;
-        move_to_start(buffer, from, count);
+        moves::to_start(buffer, from, count);
         count
     }
 }

@@ -1,83 +1,31 @@
 -- A law for each way that a function ends.
-use Prim.Native.Nat.{ℕ, _+_, _≤_, _<_}
+use Prim.Native.Nat.{ℕ, _≤_}
 use mathlib.Core.Path.{_≡_, refl, sym, ap, _∙_}
 use mathlib.Core.Option.{none, some}
-use native.Mathlib.Numerals.{add-one}
 use lib.Dec.{ltb}
-use borrow.Author.Tests.{lt-ltb, le-ltb}
 use Rattle.rules.specs.Times.{lastTime}
 use Rattle.rules.specs.Answers.{refusalNumber, _if_else_, slotOf}
-use Rattle.rules.specs.Frame.{probe, announcement}
-use Rattle.rules.specs.declared.HardwareAddress.{HardwareAddress}
 use Rattle.rules.specs.declared.Time.{Time}
-use Rattle.rules.specs.declared.Moment.{Moment}
-use Rattle.rules.specs.declared.Moment.the-variants.{Never}
-use Rattle.rules.specs.declared.Stage.the-variants.{Free, Probing, Announced, Settled}
 use Rattle.rules.specs.declared.SlotNumber.{SlotNumber}
 use Rattle.rules.specs.declared.SlotNumber.the-variants.{Absent, Slot}
 use Rattle.rules.specs.declared.Record.{Record}
 use Rattle.rules.specs.declared.Interface.{Interface}
 use Rattle.rules.specs.declared.Refusal.{Refusal}
-use Rattle.rules.specs.declared.Kind.the-variants as Kind
-use Rattle.machine.specs.Timing.{gap}
 use Rattle.machine.specs.Slots.{recordAt, withStage}
 use Rattle.machine.specs.Deadlines.{dueSlot}
 use Rattle.machine.specs.Refusals.{stateAndTime, tickRefusal}
-use Rattle.machine.specs.Calls.{delay, service, serve, tickOutcome, nothing}
-use Rattle.machine.proofs.Acceptance.{Admitted, tick-accepted}
+use Rattle.machine.specs.Calls.{service, serve, tickOutcome, nothing}
+use Rattle.machine.proofs.Acceptance.{tick-accepted}
 use Rattle.admission.specs.declared.Check.{Check}
 use Rattle.admission.specs.declared.Check.the-variants.{Passed, Refused}
 use Rattle.admission.specs.Parts.{checkOf, orElse}
 use Rattle.admission.proofs.Rows.{admits}
-use Rattle.steps.specs.declared.Outgoing.{Outgoing}
-use Rattle.steps.specs.declared.Outgoing.the-variants.{Nothing}
 use Rattle.steps.specs.declared.Verdict.the-variants.{Accepted}
 use Rattle.steps.specs.declared.Decision.{Decision}
-use Rattle.steps.specs.Parts.{frameIn, Decides, Declines, Decided}
+use Rattle.steps.specs.Parts.{Decides, Declines, Decided}
 use Rattle.steps.proofs.Promises.{declined, decided}
-use Rattle.tick.specs.declared.Service.{Service}
-use Rattle.tick.specs.Parts.{serviceOf}
-
-module _ (sent draw : ℕ) where
-  pub delay-probe : sent < 3 → (ms : ℕ) → ms ≡ gap draw → ms ≡ delay sent draw
-  delay-probe h ms e = rw (lt-ltb sent 3 h) e
-
-  pub delay-announce : 3 ≤ sent → 2_000 ≡ delay sent draw
-  delay-announce h = rw (le-ltb sent 3 h)
-
-pub ruleset delay-ends = (delay-probe, delay-announce)
-
-module _ (own : HardwareAddress) (time : Time) (draw : ℕ) (claim : Record) where
-  pub served-free : claim .stage ≡ Free →
-      serviceOf (record { kind = Kind.Nothing; stage = claim .stage; frame = Nothing }) ≡ service own time draw claim
-  unfolding service
-  served-free e = rw e
-
-  pub served-settled : (conflict : Moment) → claim .stage ≡ Settled conflict →
-      serviceOf (record { kind = Kind.Nothing; stage = claim .stage; frame = Nothing }) ≡ service own time draw claim
-  unfolding service
-  served-settled conflict e = rw e
-
-  module _ (sent : ℕ) (deadline : Time) (e : claim .stage ≡ Probing sent deadline) where
-    pub served-probe : sent < 3 → (ms : ℕ) → ms ≡ delay (sent + 1) draw → (f : Outgoing) → frameIn f ≡ some (probe own (claim .address)) →
-        serviceOf (record { kind = Kind.Probe; stage = Probing (sent + 1) (record { 0 = time .0 + ms }); frame = f })
-        ≡ service own time draw claim
-    unfolding service
-    served-probe h ms m f p = rw (e, lt-ltb sent 3 h, m, p, add-one sent)
-
-    pub served-first : 3 ≤ sent → (f : Outgoing) → frameIn f ≡ some (announcement own (claim .address)) →
-        serviceOf (record { kind = Kind.Announce; stage = Announced (record { 0 = time .0 + 2_000 }) Never; frame = f })
-        ≡ service own time draw claim
-    unfolding service
-    served-first h f p = rw (e, le-ltb sent 3 h, p)
-
-  pub served-second : (deadline : Time) (conflict : Moment) → claim .stage ≡ Announced deadline conflict →
-      (f : Outgoing) → frameIn f ≡ some (announcement own (claim .address)) →
-      serviceOf (record { kind = Kind.Announce; stage = Settled conflict; frame = f }) ≡ service own time draw claim
-  unfolding service
-  served-second deadline conflict e f p = rw (e, p)
-
-pub ruleset served-ends = (served-free, served-probe, served-first, served-second, served-settled)
+use Rattle.services.specs.declared.Service.{Service}
+use Rattle.services.specs.Parts.{serviceOf}
 
 module _ (s : Interface) (time : Time) (draw : ℕ) where
   -- `claim` is the slot's record, and `v` what serving it does.

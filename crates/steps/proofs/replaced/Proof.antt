@@ -1,5 +1,4 @@
 -- `steps::replaced`: here, or elsewhere.
-use borrow.Author.Needs.{needs}
 use Rattle.steps.proofs.Laws.{replaced-ends}
 use Rattle.steps.proofs.replaced.Statement.{statement}
 use Rattle.steps.proofs.replaced.Tie as tie

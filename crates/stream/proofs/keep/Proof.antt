@@ -14,7 +14,7 @@ returns-2 c = simp (le-leb _ _ (c .before .if1 .left), lt-leb _ _ (c .if2 .taken
 returns-3 : tie.Need-returns-3
 returns-3 c =
     simp (le-leb _ _ (c .before .before .before .before .before .if1 .left), le-leb _ _ (c .before .before .before .before .if2 .left))
-    (refl, c .before .before .move-to-start .ensures)
+    (refl, c .before .before .to-start .ensures)
 
 pub keep-spec : {M : Type 1} → statement M
 keep-spec = tie.close (tie.spec (λ c κs. search needs) returns returns-2 (λ c. search needs) returns-3)

@@ -1,0 +1,11 @@
+-- `replies::fresh`: a new interface and its answer.
+use borrow.Author.Needs.{needs}
+use Rattle.replies.proofs.Laws.{fresh-gives}
+use Rattle.replies.proofs.fresh.Statement.{statement}
+use Rattle.replies.proofs.fresh.Tie as tie
+
+returns : tie.Need-returns
+returns c = search fresh-gives
+
+pub fresh-spec : {M : Type 1} → statement M
+fresh-spec = tie.close (tie.spec (λ c κs. search needs) (λ c κs. search needs) (λ c. search needs) returns)
