@@ -1,4 +1,4 @@
--- What `perform` promises the five calls and the replay.
+-- What `perform` promises the calls and the replay.
 use Prim.Native.Nat.{ℕ}
 use mathlib.Core.Path.{_≡_}
 use mathlib.Core.List.{List}

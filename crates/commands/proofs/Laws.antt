@@ -32,73 +32,13 @@ use Rattle.addresses.specs.declared.AddressReading.the-variants as AddressReadi
 use Rattle.forms.specs.declared.Command.{Command}
 use Rattle.forms.specs.declared.Command.the-variants as Command
 use Rattle.forms.specs.Parts.{Makes, Always, freshCall, askCall, tickCall, packetCall, dropCall, ifCount}
-use Rattle.forms.proofs.Laws.{last-field, tab-in-number, read-none, read-some, same-call, none-made, too-few}
+use Rattle.forms.proofs.Counts.{last-field, ReadFirst, alone, unread, goes-on}
+use Rattle.forms.proofs.Laws.{tab-in-number, read-none, read-some, same-call, none-made, Timed}
 use Rattle.commands.specs.Parts.{addressAt, policyAt, drawAt}
 
--- A test of what is read, before the reading or behind it.
-cond-then : {A B : Type 0} (test : Bool) (o : Option A) (next : A → Option B) → cond test (o then next) none ≡ (o then λ a. cond test (next a) none)
-cond-then true o next = refl
-cond-then false o next = sym (then-none o _ (λ a. refl))
-
--- The count of the fields behind one.
-count-behind : (count : ℕ) (call : List (List ℕ) → Option Call) (x : List ℕ) (ys : List (List ℕ))
-    → ifCount (suc count) call (x ∷ ys) ≡ ifCount count (λ fs. call (x ∷ fs)) ys
-count-behind count call x ys = ap (λ t. cond t (call (x ∷ ys)) none) (eqb·suc-suc (length ys) count)
-
--- Fields of which the first is read, and makes with the others what `next` says.
-record ReadFirst {A : Type 0} (call : List (List ℕ) → Option Call) (read : List ℕ → Option A) (next : A → List (List ℕ) → Option Call) : Type 0 where
-  reads : (x : List ℕ) (ys : List (List ℕ)) → call (x ∷ ys) ≡ (read x then λ a. next a ys)
-
-module _ {A : Type 0} {call : List (List ℕ) → Option Call} {read : List ℕ → Option A} {next : A → List (List ℕ) → Option Call}
-    (form : ReadFirst call read next) (count : ℕ) (rest : List ℕ) where
-  abbrev whole : Option Call
-  whole = ifCount (suc (suc count)) call (parts tab rest)
-
-  alone : length rest ≤ length (firstPart tab rest) → whole ≡ none
-  alone all = too-few (suc (suc count)) call [] rest (firstPart tab rest) refl all (omega arith)
-
-  split : length (firstPart tab rest) < length rest
-      → whole ≡ (read (firstPart tab rest) then λ a. ifCount (suc count) (next a) (parts tab (drop (suc (length (firstPart tab rest))) rest)))
-  split more =
-      ap (ifCount (suc (suc count)) call) (more-parts tab rest more)
-      ∙ count-behind (suc count) call (firstPart tab rest) others
-      ∙ ap (λ o. cond (eqb (length others) (suc count)) o none) (form .reads (firstPart tab rest) others)
-      ∙ cond-then (eqb (length others) (suc count)) (read (firstPart tab rest)) _
-    where
-      others : List (List ℕ)
-      others = parts tab (drop (suc (length (firstPart tab rest))) rest)
-
-  unread : read (firstPart tab rest) ≡ none → whole ≡ none
-  unread e = ⊎-elim (λ all. alone (omega (arith, all))) (λ more. split more ∙ rw e) (eq-or-lt-of-le (first-length tab rest))
-
-  goes-on : (a : A) (end : ℕ) (last : List ℕ) → read (firstPart tab rest) ≡ some a → end ≡ length (firstPart tab rest)
-      → end < length rest → last ≡ drop (suc end) rest → ifCount (suc count) (next a) (parts tab last) ≡ whole
-  goes-on a end last e place more behind =
-      ap (λ l. ifCount (suc count) (next a) (parts tab l)) (behind ∙ ap (λ k. drop (suc k) rest) place)
-      ∙ sym (split (omega (arith, place)) ∙ rw e refl)
-
 -- `ask` time address policy draw: the time first.
-time-first : ReadFirst (λ fields. askCall (askWord ∷ fields)) time addressAt
-time-first = record { reads = λ x ys. refl }
-
-module _ (rest : List ℕ) (r : Reading) (told : readingOf r ≡ number largest (firstPart tab rest)) where
-  ask-behind : ifCount 5 askCall (askWord ∷ parts tab rest) ≡ ifCount 4 (λ fields. askCall (askWord ∷ fields)) (parts tab rest)
-  ask-behind = count-behind 4 askCall askWord (parts tab rest)
-
-  pub ask-no-time : r ≡ Reading.Malformed → Always Command.Malformed (ifCount 5 askCall (askWord ∷ parts tab rest))
-  ask-no-time is = none-made _ (ask-behind ∙ unread time-first 2 rest (rw (read-none r told is)))
-
-  module _ (n end : ℕ) (is : r ≡ Reading.Number n) (ends : (m : ℕ) → readingOf r ≡ some m → end ≡ length (firstPart tab rest)) where
-    pub ask-time-alone : length rest ≤ end → Always Command.Malformed (ifCount 5 askCall (askWord ∷ parts tab rest))
-    ask-time-alone all = none-made _ (ask-behind ∙ alone time-first 2 rest (omega (arith, ends n (ap readingOf is))))
-
-    pub ask-timed : end < length rest → (last : List ℕ) → last ≡ drop (suc end) rest → (command : Command)
-        → Always command (ifCount 3 (addressAt (record { 0 = n })) (parts tab last))
-        → Always command (ifCount 5 askCall (askWord ∷ parts tab rest))
-    ask-timed more last behind command =
-        same-call command _ _
-        (goes-on time-first 2 rest (record { 0 = n }) end last (rw (read-some r n told is) refl) (ends n (ap readingOf is)) more behind
-        ∙ sym ask-behind)
+pub ask-timed : Timed askWord askCall addressAt
+ask-timed = record { first = record { reads = λ x ys. refl } }
 
 -- Then the address.
 address-first : (t : Time) → ReadFirst (addressAt t) address (policyAt t)

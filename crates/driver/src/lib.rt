@@ -11,10 +11,11 @@ use libc::STDOUT_FILENO;
 use lines::Stream;
 ghost use Prim.Native.Nat.{_≤_};
 ghost use mathlib.Core.Path.{_≡_};
-ghost use mathlib.Core.Bool.{false};
+ghost use mathlib.Core.Bool.{true, false};
 ghost use lib.ListN.{length, take};
 ghost use Rattle.machine.specs.Interface.{zeros};
-ghost use Rattle.lines.specs.Stream.{atLineStart, work, kept, keptLength};
+ghost use Rattle.lines.specs.Stream.{atLineStart};
+ghost use Rattle.driver.specs.Parts.{Waited, Worked};
 
 // Where the replay stands: `held` bytes at the start of the input buffer are not used up, and are to be worked on again unless it
 // is waiting for more. `going` is false once it is over.
@@ -47,10 +48,7 @@ fn write(out: &[u8], count: usize) -> bool {
 
 // Answers the lines at hand. What is not used up moves to the start of the buffer.
 fn answer(stream: Stream, input: &mut [u8], held: usize, out: &mut [u8]) -> Turn
-    ensures { λ r. ⌜ r .stream ≡ work stream (take held (now (input .entry))) (length (now (out .entry))) .stream ⌝ }
-    ensures { λ r. ⌜ r .waiting ≡ work stream (take held (now (input .entry))) (length (now (out .entry))) .waiting ⌝ }
-    ensures { λ r. ⌜ r .held ≡ keptLength (work stream (take held (now (input .entry))) (length (now (out .entry))) .used) held (now (input .entry)) ⌝ }
-    ensures { λ r. ⌜ now (input .exit) ≡ kept (work stream (take held (now (input .entry))) (length (now (out .entry))) .used) held (now (input .entry)) ⌝ }
+    ensures { λ r. ⌜ Worked stream held (length (now (out .entry))) (now (input .entry)) (r .stream) (r .held) (r .waiting) (now (input .exit)) ⌝ }
 {
     let worked = stream::work(stream, fields::start(input, held), out);
     let next = worked.stream;
@@ -102,8 +100,7 @@ fn read(input: &mut [u8], held: usize) -> Got
 
 // Reads more, or comes to the end.
 fn read_more(stream: Stream, input: &mut [u8], held: usize, out: &mut [u8]) -> Turn
-    ensures { λ r. ⌜ r .stream ≡ stream ⌝ }
-    ensures { λ r. ⌜ take held (now (input .exit)) ≡ take held (now (input .entry)) ⌝ }
+    ensures { λ r. ⌜ Waited stream held (now (input .entry)) (r .stream) (r .held) (r .waiting) (r .going) (now (input .exit)) ⌝ }
 {
     let got = read(input, held);
     if got.failed {
@@ -122,7 +119,10 @@ fn read_more(stream: Stream, input: &mut [u8], held: usize, out: &mut [u8]) -> T
 }
 
 // One turn: a read where it waits for more, else the lines at hand.
-fn take_turn(from: Turn, input: &mut [u8; 69_632], out: &mut [u8; 262_144]) -> Turn {
+fn take_turn(from: Turn, input: &mut [u8; 69_632], out: &mut [u8; 262_144]) -> Turn
+    ensures { λ r. ⌜ (from .waiting ≡ true → Waited (from .stream) (from .held) (now (input .entry)) (r .stream) (r .held) (r .waiting) (r .going) (now (input .exit))) ⌝ }
+    ensures { λ r. ⌜ (from .waiting ≡ false → Worked (from .stream) (from .held) (length (now (out .entry))) (now (input .entry)) (r .stream) (r .held) (r .waiting) (now (input .exit))) ⌝ }
+{
     let stream = from.stream;
     if from.waiting {
         read_more(stream, input, from.held, out)

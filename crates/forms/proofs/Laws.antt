@@ -1,21 +1,17 @@
 -- How the fields of a form make up its call.
 use Prim.Native.Nat.{ℕ, suc, _<_, _≤_}
 use mathlib.Core.Path.{_≡_, refl, ap, sym, subst, _∙_}
-use mathlib.Core.Bool.{cond}
-use mathlib.Core.List.{List, [], _∷_, _++_}
+use mathlib.Core.List.{List, [], _∷_}
 use mathlib.Core.Option.{Option, none, some, Option·map, map-eq-none-iff}
-use mathlib.Core.Logic.{⊎-elim}
-use native.Mathlib.Nat.{eq-or-lt-of-le}
 use native.Mathlib.Omega.{arith}
-use lib.ListN.{length, take, drop, length-append}
-use borrow.Author.Tests.{eq-eqb, ne-eqb}
+use lib.ListN.{length, take, drop}
 use Rattle.rules.specs.declared.Time.{Time}
 use Rattle.rules.specs.declared.HardwareAddress.{HardwareAddress}
 use Rattle.machine.specs.Calls as Calls
 use Rattle.machine.specs.Calls.{Call}
 use Rattle.lines.specs.Fields.{tab, parts, firstPart, _then_}
-use Rattle.lines.specs.Forms.{time, lentBuffer, freshWord, tickWord, packetWord, dropWord}
-use Rattle.lines.proofs.FieldLaws.{first-length, one-part, more-parts, first-of-parts, separated}
+use Rattle.lines.specs.Forms.{field, time, lentBuffer, freshWord, tickWord, packetWord, dropWord}
+use Rattle.lines.proofs.FieldLaws.{separated}
 use Rattle.numerals.specs.Parts.{readingOf}
 use Rattle.numerals.proofs.Laws.{separator-in-number}
 use Rattle.numerals.specs.declared.Reading.{Reading}
@@ -26,45 +22,12 @@ use Rattle.hex.specs.declared.HardwareReading.the-variants as HardwareReading
 use Rattle.hex.specs.declared.BytesReading.{BytesReading}
 use Rattle.hex.specs.declared.BytesReading.the-variants as BytesReading
 use Rattle.lines.specs.Numbers.{number, largest, largestDraw, bytes, hardware}
-use Rattle.lines.proofs.ReadingLaws.{then-none}
 use Rattle.lines.proofs.NumberLaws.{number-at-most}
 use Rattle.lines.proofs.HexLaws.{foreign-in-bytes, foreign-in-hardware}
 use Rattle.forms.specs.declared.Command.{Command}
 use Rattle.forms.specs.declared.Command.the-variants as Command
+use Rattle.forms.proofs.Counts.{last-field, count-behind, ReadFirst, alone, unread, goes-on}
 use Rattle.forms.specs.Parts.{Makes, Always, headed, freshCall, tickCall, packetCall, dropCall, tickAt, packetAt, dropAt, ifCount}
-
--- A call that needs so many fields.
-if-count : (count : ℕ) (call : List (List ℕ) → Option Call) (fields : List (List ℕ)) → length fields ≡ count
-    → ifCount count call fields ≡ call fields
-if-count count call fields e = ap (λ t. cond t (call fields) none) (eq-eqb (length fields) count e)
-
-unless-count : (count : ℕ) (call : List (List ℕ) → Option Call) (fields : List (List ℕ)) → (length fields ≡ count → ⊥)
-    → ifCount count call fields ≡ none
-unless-count count call fields h = ap (λ t. cond t (call fields) none) (ne-eqb (length fields) count h)
-
--- The last field is all that is left of the line: a call that refuses a tab in it needs no count of the fields.
-pub last-field : (count : ℕ) (call : List (List ℕ) → Option Call) (front : List (List ℕ)) (last : List ℕ)
-    → suc (length front) ≡ count
-    → (length (firstPart tab last) < length last → call (front ++ (last ∷ [])) ≡ none)
-    → call (front ++ (last ∷ [])) ≡ ifCount count call (front ++ parts tab last)
-last-field count call front last e refuses = ⊎-elim alone more (eq-or-lt-of-le (first-length tab last))
-  where
-    alone : length (firstPart tab last) ≡ length last → call (front ++ (last ∷ [])) ≡ ifCount count call (front ++ parts tab last)
-    alone h =
-        sym
-        (ap (λ ps. ifCount count call (front ++ ps)) (one-part tab last h)
-        ∙ if-count count call (front ++ (last ∷ [])) (omega (arith, e, length-append front (last ∷ []))))
-
-    rest : List ℕ
-    rest = drop (suc (length (firstPart tab last))) last
-
-    more : length (firstPart tab last) < length last → call (front ++ (last ∷ [])) ≡ ifCount count call (front ++ parts tab last)
-    more h =
-        refuses h
-        ∙ sym
-        (ap (λ ps. ifCount count call (front ++ ps)) (more-parts tab last h)
-        ∙ unless-count count call (front ++ (firstPart tab last ∷ parts tab rest))
-        (λ k. omega (arith, k, e, length-append front (firstPart tab last ∷ parts tab rest), ap length (first-of-parts tab rest))))
 
 -- No reader takes a tab.
 module _ (text : List ℕ) (more : length (firstPart tab text) < length text) where
@@ -94,77 +57,65 @@ same-call command call call′ e h = subst (Always command) e h
 pub none-made : (call : Option Call) → call ≡ none → Always Command.Malformed call
 none-made call e = record { always = λ head. record { makes = ap (Option·map headed) (sym e) } }
 
--- A text after some fields: its first part is one more field if a tab follows, else it is the last.
-module _ (count : ℕ) (call : List (List ℕ) → Option Call) (front : List (List ℕ)) (rest first : List ℕ) (cut : first ≡ firstPart tab rest) where
-  pub one-more : length first < length rest
-      → ifCount count call (front ++ (first ∷ parts tab (drop (suc (length first)) rest))) ≡ ifCount count call (front ++ parts tab rest)
-  one-more more =
-      ap (λ p. ifCount count call (front ++ (p ∷ parts tab (drop (suc (length p)) rest)))) cut
-      ∙ ap (λ ps. ifCount count call (front ++ ps)) (sym (more-parts tab rest (omega (arith, more, ap length cut))))
+-- A form of a word, a time, and what `next` makes of the time and the other fields.
+pub record Timed (word : List ℕ) (call : List (List ℕ) → Option Call) (next : Time → List (List ℕ) → Option Call) : Type 0 where
+  pub first : ReadFirst (λ fields. call (word ∷ fields)) time next
 
-  pub too-few : length rest ≤ length first → suc (length front) < count → ifCount count call (front ++ parts tab rest) ≡ none
-  too-few all few =
-      ap (λ ps. ifCount count call (front ++ ps)) (one-part tab rest (omega (arith, all, ap length cut, first-length tab rest)))
-      ∙ unless-count count call (front ++ (rest ∷ [])) (λ e. omega (arith, e, few, length-append front (rest ∷ [])))
-
--- A form of a word, a time and a last field that refuses a tab.
-pub record Timed (word : List ℕ) (call : List (List ℕ) → Option Call) (at : Time → List ℕ → Option Call) : Type 0 where
-  reads : (x y : List ℕ) → call (word ∷ x ∷ y ∷ []) ≡ (time x then λ t. at t y)
-  refuses : (t : Time) (y : List ℕ) → length (firstPart tab y) < length y → at t y ≡ none
-
-pub tick-timed : Timed tickWord tickCall tickAt
-tick-timed = record { reads = λ x y. refl; refuses = λ t y more. rw (tab-in-number y more largestDraw) }
-
-pub drop-timed : Timed dropWord dropCall dropAt
-drop-timed = record { reads = λ x y. refl; refuses = λ t y more. rw (tab-in-number y more largest) }
-
-pub packet-timed : Timed packetWord packetCall packetAt
-packet-timed = record { reads = λ x y. refl; refuses = λ t y more. rw (tab-in-bytes y more) }
-
--- Its first field read as a number, up to `end` if it is one.
-module _ {word : List ℕ} {call : List (List ℕ) → Option Call} {at : Time → List ℕ → Option Call} (form : Timed word call at) (rest : List ℕ) where
+-- Its time is read, up to `end` if it is one.
+module _ {word : List ℕ} {call : List (List ℕ) → Option Call} {next : Time → List (List ℕ) → Option Call}
+    (form : Timed word call next) (count : ℕ) (rest : List ℕ)
+    (r : Reading) (told : readingOf r ≡ number largest (firstPart tab rest)) where
   abbrev whole : Option Call
-  whole = ifCount 3 call (word ∷ parts tab rest)
+  whole = ifCount (suc (suc (suc count))) call (word ∷ parts tab rest)
 
-  alone : length rest ≤ length (firstPart tab rest) → whole ≡ none
-  alone all = too-few 3 call (word ∷ []) rest (firstPart tab rest) refl all (omega arith)
+  behind-word : whole ≡ ifCount (suc (suc count)) (λ fields. call (word ∷ fields)) (parts tab rest)
+  behind-word = count-behind (suc (suc count)) call word (parts tab rest)
 
-  split : length (firstPart tab rest) < length rest
-      → whole ≡ (time (firstPart tab rest) then λ t. at t (drop (suc (length (firstPart tab rest))) rest))
-  split more =
-      sym
-      (last-field 3 call (word ∷ first ∷ []) last refl (λ m. form .reads first last ∙ then-none (time first) _ (λ t. form .refuses t last m))
-      ∙ one-more 3 call (word ∷ []) rest first refl more)
-      ∙ form .reads first last
-    where
-      first : List ℕ
-      first = firstPart tab rest
+  pub no-time : r ≡ Reading.Malformed → Always Command.Malformed whole
+  no-time is = none-made whole (behind-word ∙ unread (form .first) count rest (rw (read-none r told is)))
 
-      last : List ℕ
-      last = drop (suc (length first)) rest
+  module _ (n end : ℕ) (is : r ≡ Reading.Number n) (ends : (m : ℕ) → readingOf r ≡ some m → end ≡ length (firstPart tab rest)) where
+    pub no-tab : length rest ≤ end → Always Command.Malformed whole
+    no-tab all = none-made whole (behind-word ∙ alone (form .first) count rest (omega (arith, ends n (ap readingOf is))))
 
-  module _ (r : Reading) (told : readingOf r ≡ number largest (firstPart tab rest)) where
-    pub no-time : r ≡ Reading.Malformed → Always Command.Malformed whole
-    no-time is = none-made whole (⊎-elim (λ e. alone (omega (arith, e))) (λ more. split more ∙ rw (read-none r told is)) (eq-or-lt-of-le (first-length tab rest)))
+    module _ (more : end < length rest) (last : List ℕ) (behind : last ≡ drop (suc end) rest) where
+      timed : ifCount (suc count) (next (record { 0 = n })) (parts tab last) ≡ whole
+      timed =
+          goes-on (form .first) count rest (record { 0 = n }) end last (rw (read-some r n told is) refl) (ends n (ap readingOf is)) more behind
+          ∙ sym behind-word
 
-    module _ (n end : ℕ) (is : r ≡ Reading.Number n) (ends : (m : ℕ) → readingOf r ≡ some m → end ≡ length (firstPart tab rest)) where
-      pub no-tab : length rest ≤ end → Always Command.Malformed whole
-      no-tab all = none-made whole (alone (omega (arith, ends n (ap readingOf is))))
+      pub at-time : (command : Command) → Always command (ifCount (suc count) (next (record { 0 = n })) (parts tab last)) → Always command whole
+      at-time command = same-call command _ _ timed
 
-      timed : end < length rest → (last : List ℕ) → last ≡ drop (suc end) rest → at (record { 0 = n }) last ≡ whole
-      timed more last behind =
-          ap (at (record { 0 = n })) (behind ∙ ap (λ k. drop (suc k) rest) place)
-          ∙ sym (split (omega (arith, place)) ∙ rw (read-some r n told is) refl)
-        where
-          place : end ≡ length (firstPart tab rest)
-          place = ends n (ap readingOf is)
+      pub head-at-time : (command : Command) (head : List ℕ)
+          → Makes command head (ifCount (suc count) (next (record { 0 = n })) (parts tab last)) → Makes command head whole
+      head-at-time command head = subst (Makes command head) timed
 
-      module _ (more : end < length rest) (last : List ℕ) (behind : last ≡ drop (suc end) rest) (command : Command) where
-        pub at-time : Always command (at (record { 0 = n }) last) → Always command whole
-        at-time = same-call command _ _ (timed more last behind)
+-- The forms with one field behind the time: it is all that is left of the line, and refuses a tab.
+abbrev pub onlyLast : (List ℕ → Option Call) → List ℕ → Option Call
+onlyLast at last = ifCount 1 (λ fields. at (field 0 fields)) (parts tab last)
 
-        pub head-at-time : (head : List ℕ) → Makes command head (at (record { 0 = n }) last) → Makes command head whole
-        head-at-time head = subst (Makes command head) (timed more last behind)
+only-last : (at : List ℕ → Option Call) (last : List ℕ) → (length (firstPart tab last) < length last → at last ≡ none) → at last ≡ onlyLast at last
+only-last at last refuses = last-field 1 (λ fields. at (field 0 fields)) [] last refl refuses
+
+pub tick-timed : Timed tickWord tickCall (λ t fields. tickAt t (field 0 fields))
+tick-timed = record { first = record { reads = λ x ys. refl } }
+
+pub drop-timed : Timed dropWord dropCall (λ t fields. dropAt t (field 0 fields))
+drop-timed = record { first = record { reads = λ x ys. refl } }
+
+pub packet-timed : Timed packetWord packetCall (λ t fields. packetAt t (field 0 fields))
+packet-timed = record { first = record { reads = λ x ys. refl } }
+
+module _ (t : Time) (last : List ℕ) (command : Command) where
+  pub tick-last : Always command (tickAt t last) → Always command (onlyLast (tickAt t) last)
+  tick-last = same-call command _ _ (only-last (tickAt t) last (λ more. rw (tab-in-number last more largestDraw)))
+
+  pub drop-last : Always command (dropAt t last) → Always command (onlyLast (dropAt t) last)
+  drop-last = same-call command _ _ (only-last (dropAt t) last (λ more. rw (tab-in-number last more largest)))
+
+  pub packet-last : (head : List ℕ) → Makes command head (packetAt t last) → Makes command head (onlyLast (packetAt t) last)
+  packet-last head = subst (Makes command head) (only-last (packetAt t) last (λ more. rw (tab-in-bytes last more)))
 
 pub in-head : (command : Command) (call : Option Call) (head : List ℕ) → Always command call → Makes command head call
 in-head command call head made = made .always head

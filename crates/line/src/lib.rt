@@ -1,6 +1,6 @@
 // A line answered: its call made, and the answer written.
 use lines::LONGEST_ANSWER;
-use replies::Replied;
+use lines::Replied;
 use rules::Interface;
 ghost use mathlib.Core.Path.{_≡_};
 ghost use mathlib.Core.Bool.{cond};

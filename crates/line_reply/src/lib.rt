@@ -1,7 +1,7 @@
 // A line's command carried out, on a state of which it is known whether it is sound.
 use forms::Command;
+use lines::Replied;
 use plans::Plan;
-use replies::Replied;
 use rules::Interface;
 ghost use Prim.Native.Nat.{_≤_};
 ghost use mathlib.Core.Path.{_≡_};

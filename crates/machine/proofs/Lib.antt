@@ -15,5 +15,6 @@ pub mod TickStep
 pub mod PacketStep
 pub mod PacketHead
 pub mod Demand3
+pub mod EveryHistory
 pub mod AlwaysSound
 pub mod Bench

@@ -1,5 +1,6 @@
 // A call made, and the text of its answer.
 use calls::Call;
+use lines::Replied;
 use rules::Answer;
 use rules::HardwareAddress;
 use rules::Interface;
@@ -15,12 +16,6 @@ ghost use Rattle.calls.specs.Parts.{callWith};
 ghost use Rattle.lines.specs.Forms.{lentBuffer};
 ghost use Rattle.lines.specs.Answers.{longestAnswer, written, refusedText, answerTo};
 ghost use Rattle.replies.specs.Parts.{answerText, Gives};
-
-// What a line comes to: the state afterwards, and how many bytes of the answer were written.
-pub struct Replied {
-    pub state: Interface,
-    pub written: usize,
-}
 
 // The answer to a line that is not in the form. Answers how many bytes were written.
 pub fn malformed(out: &mut [u8]) -> usize

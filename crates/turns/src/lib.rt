@@ -1,5 +1,5 @@
 // What a turn of the stream's loop is made of: the next line, whether the state is sound, and the line's answer.
-use replies::Replied;
+use lines::Replied;
 use rules::Interface;
 ghost use Prim.Native.Nat.{_+_, _≤_};
 ghost use mathlib.Core.Path.{_≡_};

@@ -1,4 +1,4 @@
-//! Places of document 01 with two readings: the one taken, by its number.
+//! Places of document 01 with two readings: the one taken, as docs/DECISIONS.md has it.
 
 mod common;
 
@@ -10,7 +10,7 @@ fn met(state: &mut Interface, time: u64, bytes: &[u8]) -> twin::Answer {
 }
 
 #[test]
-fn r01_kind_none_names_no_slot() {
+fn kind_none_names_no_slot() {
     let mut state = holding(5, SEVEN, 2, settled(None));
     let echo = frame(1, OWN_TEXT, SEVEN, SEVEN);
     assert_eq!(met(&mut state, 5, &echo), answer(Kind::Nothing, None, None));
@@ -22,12 +22,12 @@ fn r01_kind_none_names_no_slot() {
 }
 
 #[test]
-fn r02_a_line_not_in_the_form_is_14_before_fresh() {
+fn a_line_not_in_the_form_is_14_before_fresh() {
     check(&[("tick_1_x", "refused_14"), ("tick_1_0", "refused_1")]);
 }
 
 #[test]
-fn r03_a_deadline_above_the_range() {
+fn a_deadline_above_the_range() {
     check(&[
         ("fresh_02000000000a", "ok_fresh_-_-_-"),
         (
@@ -55,7 +55,7 @@ fn r03_a_deadline_above_the_range() {
 }
 
 #[test]
-fn r04_an_empty_packet_field_is_in_the_form() {
+fn an_empty_packet_field_is_in_the_form() {
     check(&[
         ("fresh_02000000000a", "ok_fresh_-_-_-"),
         ("packet_0_", "refused_6"),
@@ -64,7 +64,7 @@ fn r04_an_empty_packet_field_is_in_the_form() {
 }
 
 #[test]
-fn r05_overdue_deadlines_are_reported_too() {
+fn overdue_deadlines_are_reported_too() {
     check(&[
         ("fresh_02000000000a", "ok_fresh_-_-_-"),
         ("ask_0_192.0.2.7_1_0", "ok_taken_0_0_-"),
@@ -74,7 +74,7 @@ fn r05_overdue_deadlines_are_reported_too() {
 }
 
 #[test]
-fn r06_a_defence_changes_neither_stage_nor_deadline() {
+fn a_defence_changes_neither_stage_nor_deadline() {
     let mut state = holding(100, SEVEN, 2, announced(2_000, None));
     let claim = frame(2, OTHER_TEXT, SEVEN, SEVEN);
     let got = met(&mut state, 200, &claim);
@@ -86,7 +86,7 @@ fn r06_a_defence_changes_neither_stage_nor_deadline() {
 }
 
 #[test]
-fn r07_the_count_falls_only_with_fresh() {
+fn the_count_falls_only_with_fresh() {
     let mut state = interface(0);
     state.conflicts = 10;
     state.request = Some(Time(0));
@@ -107,7 +107,7 @@ fn r07_the_count_falls_only_with_fresh() {
 }
 
 #[test]
-fn r08_a_request_is_an_accepted_ask() {
+fn a_request_is_an_accepted_ask() {
     let mut state = holding(0, SEVEN, 3, probing(0, 0));
     state.request = Some(Time(0));
     state.conflicts = 10;
@@ -118,7 +118,7 @@ fn r08_a_request_is_an_accepted_ask() {
 }
 
 #[test]
-fn r09_both_announcements_have_the_kind_announce() {
+fn both_announcements_have_the_kind_announce() {
     for stage in [probing(3, 0), announced(0, None)] {
         let mut state = holding(0, SEVEN, 1, stage);
         let got = state.tick(Time(0), 0, &mut [0; 28]).unwrap();
@@ -127,7 +127,7 @@ fn r09_both_announcements_have_the_kind_announce() {
 }
 
 #[test]
-fn r10_every_accepted_call_sets_the_latest_time() {
+fn every_accepted_call_sets_the_latest_time() {
     let none = packet(20, &frame_text(1, OTHER_TEXT, EIGHT.0, 0));
     let lost = packet(40, &frame_text(1, OTHER_TEXT, SEVEN.0, 0));
     check(&[
@@ -149,13 +149,13 @@ fn r10_every_accepted_call_sets_the_latest_time() {
 }
 
 #[test]
-fn r11_an_unended_line_is_14_and_its_answer_ends() {
+fn an_unended_line_is_14_and_its_answer_ends() {
     assert_eq!(replay(b"\n"), b"refused\t14\n");
     assert_eq!(replay(b"fresh\t02000000000a"), b"refused\t14\n");
 }
 
 #[test]
-fn r12_numbers_are_compared_whole() {
+fn numbers_are_compared_whole() {
     check(&[
         ("fresh_02000000000a", "ok_fresh_-_-_-"),
         ("ask_0_192.0.2.7_257_0", "refused_9"),
@@ -171,7 +171,7 @@ fn r12_numbers_are_compared_whole() {
 }
 
 #[test]
-fn r13_addresses_in_the_form_and_not() {
+fn addresses_in_the_form_and_not() {
     check(&[
         ("fresh_02000000000a", "ok_fresh_-_-_-"),
         ("ask_0_0.0.0.0_1_0", "refused_8"),
@@ -183,14 +183,14 @@ fn r13_addresses_in_the_form_and_not() {
 }
 
 #[test]
-fn r14_a_late_echo_of_our_announcement_is_a_conflict() {
+fn a_late_echo_of_our_announcement_is_a_conflict() {
     let mut state = holding(0, SEVEN, 3, probing(0, 500));
     let echo = frame(1, OWN_TEXT, SEVEN, SEVEN);
     assert_eq!(met(&mut state, 1, &echo), answer(Kind::Lost, Some(0), None));
 }
 
 #[test]
-fn r15_the_lowest_number_that_applies() {
+fn the_lowest_number_that_applies() {
     let mut state = interface(10);
     state.conflicts = 11;
     refuses(&state, 1, |state, out| {
@@ -207,7 +207,7 @@ fn r15_the_lowest_number_that_applies() {
 }
 
 #[test]
-fn r16_hardware_is_a_48_bit_number() {
+fn hardware_is_a_48_bit_number() {
     let wide = Hardware(1 << 48 | 2 << 40);
     assert_eq!(Interface::fresh(wide).err(), Some(Refusal::OwnHardware));
     let mut state = interface(0);
@@ -223,7 +223,7 @@ fn r16_hardware_is_a_48_bit_number() {
 }
 
 #[test]
-fn r17_a_freed_record_is_zero() {
+fn a_freed_record_is_zero() {
     let mut state = holding(0, SEVEN, 3, settled(None));
     state.drop(Time(0), 0).unwrap();
     assert_eq!(state.slots[0].address, Address(0));
@@ -235,7 +235,7 @@ fn r17_a_freed_record_is_zero() {
 }
 
 #[test]
-fn r18_any_record_can_be_handed_in_and_refused() {
+fn any_record_can_be_handed_in_and_refused() {
     for (policy, sent) in [(0, 0), (255, 0), (1, 255)] {
         let state = holding(0, SEVEN, policy, probing(sent, 0));
         refuses(&state, 1, |state, out| state.tick(Time(0), 0, out));
@@ -243,7 +243,7 @@ fn r18_any_record_can_be_handed_in_and_refused() {
 }
 
 #[test]
-fn r19_refusal_5_without_a_frame_to_write() {
+fn refusal_5_without_a_frame_to_write() {
     let state = interface(0);
     refuses(&state, 5, |state, out| {
         state.tick(Time(0), 0, &mut out[..27])
@@ -255,7 +255,7 @@ fn r19_refusal_5_without_a_frame_to_write() {
 }
 
 #[test]
-fn r20_count_10_with_no_request() {
+fn count_10_with_no_request() {
     let mut state = interface(0);
     state.conflicts = 10;
     assert!(state.is_sound());
@@ -264,7 +264,7 @@ fn r20_count_10_with_no_request() {
 }
 
 #[test]
-fn r21_a_latest_time_above_the_range() {
+fn a_latest_time_above_the_range() {
     for reading in [0, 0x8000_0000, u32::MAX] {
         let widened = widen(Time(LAST_TIME + 1), reading);
         assert_eq!(widened.step, 0);
@@ -273,7 +273,7 @@ fn r21_a_latest_time_above_the_range() {
 }
 
 #[test]
-fn r22_sound_exactly_if() {
+fn sound_exactly_if() {
     // A passed deadline, a conflict before the request: nothing else is asked.
     let mut state = holding(90_000, SEVEN, 1, announced(0, Some(1)));
     state.request = Some(Time(80_000));
@@ -281,7 +281,7 @@ fn r22_sound_exactly_if() {
 }
 
 #[test]
-fn r23_both_ways_of_losing_an_address_in_use() {
+fn both_ways_of_losing_an_address_in_use() {
     let claim = frame(1, OTHER_TEXT, SEVEN, SEVEN);
     let mut first = holding(0, SEVEN, 1, settled(None));
     assert_eq!(met(&mut first, 0, &claim).kind, Kind::Lost);
@@ -291,7 +291,7 @@ fn r23_both_ways_of_losing_an_address_in_use() {
 }
 
 #[test]
-fn r24_a_refused_fresh_changes_nothing() {
+fn a_refused_fresh_changes_nothing() {
     check(&[
         ("fresh_02000000000a", "ok_fresh_-_-_-"),
         ("ask_7_192.0.2.7_1_3", "ok_taken_0_10_-"),
@@ -302,7 +302,7 @@ fn r24_a_refused_fresh_changes_nothing() {
 }
 
 #[test]
-fn r25_document_01_decides_over_rfc_5227() {
+fn document_01_decides_over_rfc_5227() {
     // Defended conflicts count too, over all records, and the interval runs
     // from the latest ask.
     let mut state = holding(0, SEVEN, 3, settled(None));

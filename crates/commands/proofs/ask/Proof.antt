@@ -1,17 +1,18 @@
 -- `commands::ask`: the time, and what is left of the line.
 use borrow.Author.Needs.{needs}
-use Rattle.commands.proofs.Laws.{ask-no-time, ask-time-alone, ask-timed}
+use Rattle.forms.proofs.Laws.{at-time, no-tab, no-time}
+use Rattle.commands.proofs.Laws.{ask-timed}
 use Rattle.commands.proofs.ask.Statement.{statement}
 use Rattle.commands.proofs.ask.Tie as tie
 
 returns : tie.Need-returns
-returns c = search ask-no-time
+returns c = search (no-time ask-timed 2)
 
 returns-2 : tie.Need-returns-2
-returns-2 c = search ask-timed
+returns-2 c = search (at-time ask-timed 2)
 
 returns-3 : tie.Need-returns-3
-returns-3 c = search ask-time-alone
+returns-3 c = search (no-tab ask-timed 2)
 
 pub ask-spec : {M : Type 1} → statement M
 ask-spec =

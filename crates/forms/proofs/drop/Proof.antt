@@ -1,17 +1,17 @@
 -- `forms::drop`: the time, and what is left of the line.
 use borrow.Author.Needs.{needs}
-use Rattle.forms.proofs.Laws.{at-time, drop-timed, no-tab, no-time}
+use Rattle.forms.proofs.Laws.{at-time, drop-last, drop-timed, no-tab, no-time}
 use Rattle.forms.proofs.drop.Statement.{statement}
 use Rattle.forms.proofs.drop.Tie as tie
 
 returns : tie.Need-returns
-returns c = search (no-time drop-timed)
+returns c = search (no-time drop-timed 0)
 
 returns-2 : tie.Need-returns-2
-returns-2 c = search (at-time drop-timed)
+returns-2 c = search (at-time drop-timed 0, drop-last)
 
 returns-3 : tie.Need-returns-3
-returns-3 c = search (no-tab drop-timed)
+returns-3 c = search (no-tab drop-timed 0)
 
 pub drop-spec : {M : Type 1} → statement M
 drop-spec =

@@ -1,17 +1,17 @@
 -- `forms::tick`: the time, and what is left of the line.
 use borrow.Author.Needs.{needs}
-use Rattle.forms.proofs.Laws.{at-time, no-tab, no-time, tick-timed}
+use Rattle.forms.proofs.Laws.{at-time, no-tab, no-time, tick-timed, tick-last}
 use Rattle.forms.proofs.tick.Statement.{statement}
 use Rattle.forms.proofs.tick.Tie as tie
 
 returns : tie.Need-returns
-returns c = search (no-time tick-timed)
+returns c = search (no-time tick-timed 0)
 
 returns-2 : tie.Need-returns-2
-returns-2 c = search (at-time tick-timed)
+returns-2 c = search (at-time tick-timed 0, tick-last)
 
 returns-3 : tie.Need-returns-3
-returns-3 c = search (no-tab tick-timed)
+returns-3 c = search (no-tab tick-timed 0)
 
 pub tick-spec : {M : Type 1} → statement M
 tick-spec =
