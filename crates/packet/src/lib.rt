@@ -85,8 +85,7 @@ fn meet(state: Interface, time: Time, frame: Frame) -> Decision
     match found {
         SlotNumber::Absent => steps::nothing(state, time),
         SlotNumber::Slot(slot) => {
-            let all = state.records;
-            let held = steps::record_at(all, slot);
+            let held = steps::record_at(records, slot);
             let chosen = responses::response(held, time);
             respond(state, time, slot, held, chosen)
         }
