@@ -8,7 +8,6 @@ use mathlib.Core.Logic.{⊎-elim}
 use native.Mathlib.Nat.{eq-or-lt-of-le}
 use native.Mathlib.Numerals.{add-one}
 use native.Mathlib.Omega.{arith}
-use lib.Dec.{eqb, eqb·suc-suc}
 use lib.ListN.{length, drop, length-append}
 use borrow.Author.Tests.{le-leb, lt-leb}
 use Rattle.rules.specs.Bytes.{sameBytes}
@@ -16,11 +15,10 @@ use Rattle.rules.proofs.BytesLaws.{same-equal}
 use Rattle.rules.specs.declared.Time.{Time}
 use Rattle.rules.specs.declared.Ipv4Address.{Ipv4Address}
 use Rattle.machine.specs.Calls.{Call}
-use Rattle.lines.specs.Fields.{tab, parts, firstPart, _then_}
+use Rattle.lines.specs.Fields.{tab, parts, firstPart}
 use Rattle.lines.specs.Numbers.{number, largest, largestDraw, address}
-use Rattle.lines.specs.Forms.{longestLine, callOf, callIn, field, time, freshWord, askWord, tickWord, packetWord, dropWord}
+use Rattle.lines.specs.Forms.{longestLine, callOf, callIn, field, freshWord, askWord, tickWord, packetWord, dropWord}
 use Rattle.lines.proofs.FieldLaws.{first-length, one-part, more-parts, separated}
-use Rattle.lines.proofs.ReadingLaws.{then-none}
 use Rattle.fields.specs.Places.{begun}
 use Rattle.fields.proofs.Laws.{begun-is, is-begun}
 use Rattle.numerals.specs.Parts.{readingOf}

@@ -35,8 +35,9 @@ module _ (st : Stream) (held : ℕ) (input : List ℕ) (after : Stream) (count :
   stopped waiting going over =
       record { stream-stays = stays; held-stays = same; goes-on = λ e. absurd (false≢true (sym over ∙ e)) }
 
-  pub brought : held ≤ count → Waited st held input after count false true left
-  brought more = record { stream-stays = stays; held-stays = same; goes-on = λ e. (refl, more) }
+  pub brought : (failed : Bool) → failed ≡ false → held ≤ count → (failed ≡ false → count ≤ length input)
+      → Waited st held input after count false true left
+  brought failed fine more fits = record { stream-stays = stays; held-stays = same; goes-on = λ e. (refl, more, fits fine) }
 
 -- The turn that is taken is that of a replay that waits, or of one that does not.
 pub by-waiting : {A B : Type 0} (waiting : Bool) → waiting ≡ true → A → (waiting ≡ true → A) × (waiting ≡ false → B)

@@ -3,15 +3,16 @@ use Prim.Native.Nat.{ℕ, _≤_}
 use mathlib.Core.Path.{_≡_}
 use mathlib.Core.Bool.{Bool, true, false}
 use mathlib.Core.List.{List}
-use lib.ListN.{take}
+use lib.ListN.{length, take}
 use Rattle.lines.specs.declared.Stream.{Stream}
 use Rattle.lines.specs.Stream.{work, kept, keptLength}
 
--- A turn that waits for more: the stream and what is held stay. If it goes on, it has at least as much, and no longer waits.
+-- A turn that waits for more: the stream and what is held stay. If it goes on, it has at least as much, within the buffer, and no
+-- longer waits.
 pub record Waited (st : Stream) (held : ℕ) (input : List ℕ) (after : Stream) (count : ℕ) (waiting going : Bool) (left : List ℕ) : Type 0 where
   pub stream-stays : after ≡ st
   pub held-stays : take held left ≡ take held input
-  pub goes-on : going ≡ true → (waiting ≡ false) × (held ≤ count)
+  pub goes-on : going ≡ true → (waiting ≡ false) × (held ≤ count) × (count ≤ length input)
 
 -- A turn that does not: the work on what is held, with so much room for answers, and what it does not use up is kept.
 pub record Worked (st : Stream) (held room : ℕ) (input : List ℕ) (after : Stream) (count : ℕ) (waiting : Bool) (left : List ℕ) : Type 0 where

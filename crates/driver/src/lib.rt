@@ -80,6 +80,7 @@ struct Got {
 // Reads behind what is held. There is always room, since no more than 4,096 bytes are held; the test only makes the part safe.
 fn read(input: &mut [u8], held: usize) -> Got
     ensures { λ r. ⌜ held ≤ r .held ⌝ }
+    ensures { λ r. ⌜ (r .failed ≡ false → r .held ≤ length (now (input .entry))) ⌝ }
     ensures { λ r. ⌜ take held (now (input .exit)) ≡ take held (now (input .entry)) ⌝ }
 {
     if input.len() <= held {

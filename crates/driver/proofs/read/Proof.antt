@@ -1,20 +1,25 @@
--- `driver::read`: the bytes that are held stay.
+-- `driver::read`: the bytes that are held stay, and what is read goes behind them.
+use mathlib.Core.Path.{refl}
+use mathlib.Core.Bool.{true≢false}
 use borrow.Author.Needs.{needs}
 use native.Mathlib.Omega.{arith}
 use Rattle.driver.proofs.Laws.{front-kept}
 use Rattle.driver.proofs.read.Statement.{statement}
 use Rattle.driver.proofs.read.Tie as tie
 
+returns : tie.Need-returns
+returns c = (omega arith, (λ e. absurd (true≢false e), refl))
+
 returns-2 : tie.Need-returns-2
 returns-2 c =
     let a = c .before .before .before .before .before .before .before .before .before .before .before .args in
-    (omega arith, front-kept (a .held) (a .input .now) _ (omega arith))
+    (omega arith, (λ e. omega arith, front-kept (a .held) (a .input .now) _ (omega arith)))
 
 pub read-spec : {M : Type 1} → statement M
 read-spec =
     tie.close
     (tie.spec
-    (λ c. search needs)
+    returns
     (λ c. search needs)
     (λ c. search needs)
     (λ c. search needs)

@@ -95,10 +95,30 @@ fn script(name: &str, text: &str) -> OnDisk {
     OnDisk { program }
 }
 
-/// What is noticed of a script that gets this input.
+/// What is noticed of a script that ends by itself and gets this input.
 fn trouble(name: &str, text: &str, input: &[u8], pieces: &[usize]) -> String {
+    trouble_within(PATIENCE, name, text, input, pieces)
+}
+
+/// The same of a script that hangs.
+fn trouble_of_hanging(name: &str, input: &[u8], pieces: &[usize]) -> String {
+    trouble_within(
+        Duration::from_millis(500),
+        name,
+        "exec sleep 30",
+        input,
+        pieces,
+    )
+}
+
+fn trouble_within(
+    patience: Duration,
+    name: &str,
+    text: &str,
+    input: &[u8],
+    pieces: &[usize],
+) -> String {
     let program = script(name, text);
-    let patience = Duration::from_millis(500);
     let difference = differ(&program, input, pieces, patience).expect("a wrong script differs");
     fs::remove_file(&program.program).expect("the script was there");
     difference.trouble
@@ -106,7 +126,7 @@ fn trouble(name: &str, text: &str, input: &[u8], pieces: &[usize]) -> String {
 
 #[test]
 fn scripts_that_hang_fail_or_die() {
-    let hangs = trouble("hangs", "exec sleep 5", b"\n", &[]);
+    let hangs = trouble_of_hanging("hangs", b"\n", &[]);
     assert!(hangs.starts_with("did not end"), "{hangs}");
     let fails = trouble(
         "fails",
@@ -124,7 +144,7 @@ fn scripts_that_hang_fail_or_die() {
 #[test]
 fn scripts_that_hang_or_die_with_pieces_left() {
     let (input, pieces) = ([b'\n'; 3000], [1; 3000]);
-    let hangs = trouble("hangs-in-pieces", "exec sleep 5", &input, &pieces);
+    let hangs = trouble_of_hanging("hangs-in-pieces", &input, &pieces);
     assert!(hangs.starts_with("did not end"), "{hangs}");
     let dies = trouble("dies-in-pieces", "kill -9 $$", &input, &pieces);
     assert!(dies.contains("signal: 9"), "{dies}");
