@@ -1,10 +1,10 @@
 // The board's clock: a 32-bit count of milliseconds that rolls over, widened to the time it stands for.
-use rules::ClockAnswer;
-use rules::LAST_TIME;
-use rules::Refusal;
-use rules::Time;
+use basis::ClockAnswer;
+use basis::LAST_TIME;
+use basis::Refusal;
+use basis::Time;
 ghost use mathlib.Core.Path.{_≡_};
-ghost use Rattle.rules.specs.Clock.{signed, clockOf, clockReport};
+ghost use Rattle.basis.specs.Clock.{signed, clockOf, clockReport};
 
 // A wrapped difference as a signed step.
 fn signed_step(difference: u32) -> i32

@@ -1,2 +1,2 @@
 -- What the calls' proofs cite.
-mod Laws
+mod EngineLaws

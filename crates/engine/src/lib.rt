@@ -1,34 +1,34 @@
 // The five calls of a port, each for any state and any arguments. The state goes in and comes back by value, after a refusal as
 // it was.
-use calls::Call;
-use rules::Called;
-use rules::HardwareAddress;
-use rules::Interface;
-use rules::Ipv4Address;
-use rules::Time;
+use engine_calls::Call;
+use basis::Called;
+use basis::HardwareAddress;
+use basis::Interface;
+use basis::Ipv4Address;
+use basis::Time;
 ghost use mathlib.Core.Path.{_≡_};
 ghost use mathlib.Core.List.{[]};
-ghost use Rattle.rules.specs.Answers.{answerReport};
-ghost use Rattle.machine.specs.Calls as Calls;
-ghost use Rattle.machine.specs.Machine.{resultOf, Promised};
-ghost use Rattle.calls.specs.Parts.{callWith};
+ghost use Rattle.basis.specs.Answers.{answerReport};
+ghost use Rattle.basis_engine.specs.Calls as Calls;
+ghost use Rattle.basis_engine.specs.Machine.{resultOf, Promised};
+ghost use Rattle.engine_calls.specs.Performed.{callWith};
 
 // A call to which nothing is lent.
 fn perform_alone(state: Interface, time: Time, call: Call) -> Called
     ensures { λ r. ⌜ answerReport (r .answer) ≡ resultOf state (callWith time call [] []) .report ⌝ }
     ensures { λ r. ⌜ r .state ≡ resultOf state (callWith time call [] []) .state ⌝ }
 {
-    let sound = soundness::is_sound(state);
+    let sound = engine_soundness::is_sound(state);
     let bytes = [0u8; 0];
     let mut out = [0u8; 0];
-    calls::perform(state, sound, time, call, &bytes, &mut out)
+    engine_calls::perform(state, sound, time, call, &bytes, &mut out)
 }
 
 // Makes a new interface, in place of the one handed in.
 pub fn fresh(state: Interface, hardware: HardwareAddress) -> Called
     ensures { λ r. ⌜ Promised state (Calls.fresh hardware) (r .answer) (r .state) [] ⌝ }
 {
-    port::fresh(state, hardware)
+    engine_port::fresh(state, hardware)
 }
 
 // Asks for an address: its claim takes the lowest free slot.
@@ -47,19 +47,19 @@ pub fn ask(state: Interface, time: Time, address: Ipv4Address, policy: u64, draw
 pub fn tick(state: Interface, time: Time, draw: u32, out: &mut [u8]) -> Called
     ensures { λ r. ⌜ Promised state (Calls.tick time draw (now (out .entry))) (r .answer) (r .state) (now (out .exit)) ⌝ }
 {
-    let sound = soundness::is_sound(state);
+    let sound = engine_soundness::is_sound(state);
     let call = Call::Tick { draw };
     let bytes = [0u8; 0];
-    calls::perform(state, sound, time, call, &bytes, out)
+    engine_calls::perform(state, sound, time, call, &bytes, out)
 }
 
 // An ARP packet came in.
 pub fn packet(state: Interface, time: Time, bytes: &[u8], out: &mut [u8]) -> Called
     ensures { λ r. ⌜ Promised state (Calls.packet time (now (bytes .entry)) (now (out .entry))) (r .answer) (r .state) (now (out .exit)) ⌝ }
 {
-    let sound = soundness::is_sound(state);
+    let sound = engine_soundness::is_sound(state);
     let call = Call::Packet;
-    calls::perform(state, sound, time, call, bytes, out)
+    engine_calls::perform(state, sound, time, call, bytes, out)
 }
 
 // Frees a slot.

@@ -1,8 +1,8 @@
 // What reading and writing an ARP frame share, and the number that bytes stand for.
 ghost use mathlib.Core.Path.{_≡_};
 ghost use mathlib.Core.List.{_∷_, []};
-ghost use Rattle.rules.specs.Bytes.{numberOf};
-ghost use Rattle.rules.specs.Frame.{isKnownOperation};
+ghost use Rattle.basis.specs.Bytes.{numberOf};
+ghost use Rattle.basis.specs.Frame.{isKnownOperation};
 
 // How a request of ours begins: hardware type, protocol, lengths and operation. The first six bytes begin every frame.
 pub const REQUEST: [u8; 8] = *b"\x00\x01\x08\x00\x06\x04\x00\x01";

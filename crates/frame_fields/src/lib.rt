@@ -1,12 +1,12 @@
 // The fields of an ARP frame of RFC 826, for Ethernet and IPv4: of 28 bytes, most significant first.
-use rules::Frame;
-use rules::HardwareAddress;
-use rules::Host;
-use rules::Ipv4Address;
+use basis::Frame;
+use basis::HardwareAddress;
+use basis::Host;
+use basis::Ipv4Address;
 ghost use mathlib.Core.Path.{_≡_};
 ghost use Prim.Native.Nat.{_≤_};
 ghost use lib.ListN.{length};
-ghost use Rattle.rules.specs.Frame.{frameOf};
+ghost use Rattle.basis.specs.Frame.{frameOf};
 
 // The fields of 28 or more bytes.
 pub fn fields(bytes: &[u8]) -> Frame

@@ -1,10 +1,10 @@
 // The bytes of an ARP frame of RFC 826, for Ethernet and IPv4: 28, most significant first.
 use frame::REQUEST;
-use rules::Frame;
+use basis::Frame;
 ghost use mathlib.Core.Path.{_≡_};
 ghost use mathlib.Core.List.{_++_};
 ghost use lib.ListN.{drop};
-ghost use Rattle.rules.specs.Frame.{requestHeader, frameBytes};
+ghost use Rattle.basis.specs.Frame.{requestHeader, frameBytes};
 
 // A request's bytes, with the frame's addresses.
 fn request(frame: Frame) -> [u8; 28]

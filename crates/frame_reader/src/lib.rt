@@ -1,11 +1,11 @@
 // Reading an ARP frame: its fields, or a refusal.
 use frame::REQUEST;
-use rules::ReadAnswer;
-use rules::Refusal;
+use basis::ReadAnswer;
+use basis::Refusal;
 ghost use mathlib.Core.Path.{_≡_};
 ghost use Prim.Native.Nat.{_≤_};
 ghost use lib.ListN.{length};
-ghost use Rattle.rules.specs.Frame.{isKnownFrame, readOf, readReport};
+ghost use Rattle.basis.specs.Frame.{isKnownFrame, readOf, readReport};
 
 // Whether 28 or more bytes begin as ours do, with operation 1 or 2.
 fn is_known_frame(bytes: &[u8]) -> bool

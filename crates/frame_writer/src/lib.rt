@@ -1,12 +1,12 @@
 // Writing an ARP frame: its 28 bytes to the start of the out buffer, or a refusal.
-use rules::Frame;
-use rules::HARDWARE_END;
-use rules::Refusal;
-use rules::WriteAnswer;
+use basis::Frame;
+use basis::HARDWARE_END;
+use basis::Refusal;
+use basis::WriteAnswer;
 ghost use mathlib.Core.Path.{_≡_};
 ghost use lib.ListN.{length};
-ghost use Rattle.rules.specs.Frame.{isWritable, writeOf, writeOut, writeReport};
-ghost use Rattle.frame_writer.specs.Parts.{bytesWritten};
+ghost use Rattle.basis.specs.Frame.{isWritable, writeOf, writeOut, writeReport};
+ghost use Rattle.frame_writer.specs.BytesWritten.{bytesWritten};
 
 // Whether a frame has operation 1 or 2 and hardware addresses of 48 bits.
 fn is_writable(frame: Frame) -> bool

@@ -1,4 +1,4 @@
 // Replays the lines of standard input: an answer a line on standard output.
 fn main() {
-    driver::run();
+    replay_driver::run();
 }

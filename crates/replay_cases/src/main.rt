@@ -1,4 +1,4 @@
 // The replay again, on the cases of tests/cases.
 fn main() {
-    driver::run();
+    replay_driver::run();
 }

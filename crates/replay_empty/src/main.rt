@@ -1,4 +1,4 @@
 // The replay again, on another file: no input at all.
 fn main() {
-    driver::run();
+    replay_driver::run();
 }

@@ -1,4 +1,4 @@
 // The replay again, on the fixed lines of tests/fuzz; what it must write are the twin's answers.
 fn main() {
-    driver::run();
+    replay_driver::run();
 }

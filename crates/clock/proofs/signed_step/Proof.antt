@@ -1,6 +1,6 @@
 -- `clock::signed_step`: forward as it is, backward below none.
 use borrow.Author.Needs.{needs}
-use Rattle.clock.proofs.Laws.{step-forward, backward-fits, step-backward}
+use Rattle.clock.proofs.ClockLaws.{step-forward, backward-fits, step-backward}
 use Rattle.clock.proofs.signed_step.Statement.{statement}
 use Rattle.clock.proofs.signed_step.Tie as tie
 

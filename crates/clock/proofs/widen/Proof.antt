@@ -1,6 +1,6 @@
 -- `clock::widen`: above the range, backward, out of the range, the new time.
 use borrow.Author.Needs.{needs}
-use Rattle.clock.proofs.Laws.{clock-ends}
+use Rattle.clock.proofs.ClockLaws.{clock-ends}
 use Rattle.clock.proofs.widen.Statement.{statement}
 use Rattle.clock.proofs.widen.Tie as tie
 

@@ -1,6 +1,6 @@
 -- `engine::ask`: its promise.
 use borrow.Author.Needs.{needs}
-use Rattle.engine.proofs.Laws.{promise-ends}
+use Rattle.engine.proofs.EngineLaws.{promise-ends}
 use Rattle.engine.proofs.ask.Statement.{statement}
 use Rattle.engine.proofs.ask.Tie as tie
 

@@ -1,6 +1,6 @@
 -- `engine::drop`: its promise.
 use borrow.Author.Needs.{needs}
-use Rattle.engine.proofs.Laws.{promise-ends}
+use Rattle.engine.proofs.EngineLaws.{promise-ends}
 use Rattle.engine.proofs.drop.Statement.{statement}
 use Rattle.engine.proofs.drop.Tie as tie
 

@@ -1,6 +1,6 @@
 -- `engine::packet`: its promise.
 use borrow.Author.Needs.{needs}
-use Rattle.engine.proofs.Laws.{promise-ends}
+use Rattle.engine.proofs.EngineLaws.{promise-ends}
 use Rattle.engine.proofs.packet.Statement.{statement}
 use Rattle.engine.proofs.packet.Tie as tie
 

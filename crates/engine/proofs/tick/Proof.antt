@@ -1,6 +1,6 @@
 -- `engine::tick`: its promise.
 use borrow.Author.Needs.{needs}
-use Rattle.engine.proofs.Laws.{promise-ends}
+use Rattle.engine.proofs.EngineLaws.{promise-ends}
 use Rattle.engine.proofs.tick.Statement.{statement}
 use Rattle.engine.proofs.tick.Tie as tie
 

@@ -1,6 +1,6 @@
 -- `frame_fields::fields`: every index is below 28, and each field is the number of its bytes.
 use borrow.Author.Needs.{needs}
-use Rattle.frame_fields.proofs.Laws.{fields-frame}
+use Rattle.frame_fields.proofs.FieldsLaws.{fields-frame}
 use Rattle.frame_fields.proofs.fields.Statement.{statement}
 use Rattle.frame_fields.proofs.fields.Tie as tie
 

@@ -1,6 +1,6 @@
 -- `frame_image::image`: another operation, or the request as it stands.
 use borrow.Author.Needs.{needs}
-use Rattle.frame_image.proofs.Laws.{image-request, image-other}
+use Rattle.frame_image.proofs.ImageLaws.{image-request, image-other}
 use Rattle.frame_image.proofs.image.Statement.{statement}
 use Rattle.frame_image.proofs.image.Tie as tie
 

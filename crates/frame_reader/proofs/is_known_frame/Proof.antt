@@ -1,6 +1,6 @@
 -- `frame_reader::is_known_frame`: six equal bytes and the operation, or bytes that differ.
 use borrow.Author.Needs.{needs}
-use Rattle.frame_reader.proofs.Laws.{prefix-length, header-same, header-differs}
+use Rattle.frame_reader.proofs.ReaderLaws.{prefix-length, header-same, header-differs}
 use Rattle.frame_reader.proofs.is_known_frame.Statement.{statement}
 use Rattle.frame_reader.proofs.is_known_frame.Tie as tie
 

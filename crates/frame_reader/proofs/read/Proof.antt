@@ -1,6 +1,6 @@
 -- `frame_reader::read`: refusal 6, the frame, refusal 7.
 use borrow.Author.Needs.{needs}
-use Rattle.frame_reader.proofs.Laws.{read-ends}
+use Rattle.frame_reader.proofs.ReaderLaws.{read-ends}
 use Rattle.frame_reader.proofs.read.Statement.{statement}
 use Rattle.frame_reader.proofs.read.Tie as tie
 

@@ -1,6 +1,6 @@
 -- `frame_writer::is_writable`: the operation, then the two hardware addresses.
 use borrow.Author.Needs.{needs}
-use Rattle.frame_writer.proofs.Laws.{good-sender, bad-sender, unknown-operation}
+use Rattle.frame_writer.proofs.WriterLaws.{good-sender, bad-sender, unknown-operation}
 use Rattle.frame_writer.proofs.is_writable.Statement.{statement}
 use Rattle.frame_writer.proofs.is_writable.Tie as tie
 

@@ -1,6 +1,6 @@
 -- `frame_writer::write`: as many bytes of the frame as the answer lets out, at the start of the out buffer.
 use borrow.Author.Needs.{needs}
-use Rattle.frame_writer.proofs.Laws.{count-fits, count-is, count-room, write-leaves}
+use Rattle.frame_writer.proofs.WriterLaws.{count-fits, count-is, count-room, write-leaves}
 use Rattle.frame_writer.proofs.write.Statement.{statement}
 use Rattle.frame_writer.proofs.write.Tie as tie
 

@@ -1,6 +1,6 @@
 -- `frame_writer::write_answer`: refusal 5, written, refusal 7.
 use borrow.Author.Needs.{needs}
-use Rattle.frame_writer.proofs.Laws.{write-ends}
+use Rattle.frame_writer.proofs.WriterLaws.{write-ends}
 use Rattle.frame_writer.proofs.write_answer.Statement.{statement}
 use Rattle.frame_writer.proofs.write_answer.Tie as tie
 

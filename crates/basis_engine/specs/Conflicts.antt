@@ -1,0 +1,90 @@
+-- Document 01, "Packet": what is a conflict, and what it does to a record.
+use Prim.Native.Nat.{ℕ, suc}
+use mathlib.Core.Bool.{Bool, false, cond, not, _&&_, _||_}
+use mathlib.Core.Option.{Option, none, some}
+use lib.Dec.{eqb}
+use Rattle.basis.specs.Frame.{announcement}
+use Rattle.basis.specs.declared.Ipv4Address.{Ipv4Address}
+use Rattle.basis.specs.declared.HardwareAddress.{HardwareAddress}
+use Rattle.basis.specs.declared.Time.{Time}
+use Rattle.basis.specs.declared.Moment.{Moment}
+use Rattle.basis.specs.declared.Moment.the-variants.{At}
+use Rattle.basis.specs.declared.Frame.{Frame}
+use Rattle.basis.specs.declared.Stage.{Stage}
+use Rattle.basis.specs.declared.Stage.the-variants.{Free, Probing, Announced, Settled}
+use Rattle.basis.specs.declared.Record.{Record}
+use Rattle.basis.specs.declared.Response.{Response}
+use Rattle.basis.specs.declared.Response.the-variants.{Lose, Defend, Keep}
+use Rattle.basis.specs.declared.Kind.{Kind}
+use Rattle.basis.specs.declared.Kind.the-variants as Kind
+use Rattle.basis_engine.specs.Timing.{rfc5227, isWithin}
+use Rattle.basis_engine.specs.Slots.{freeRecord, withStage}
+use Rattle.basis_engine.specs.Interface.{isOurs}
+
+-- What a packet says of an address: that it comes from there; or, "operation 1, sender IP zero, target IP its address", that
+-- its sender probes for it.
+abbrev pub isFrom : Frame → Ipv4Address → Bool
+isFrom f address = eqb (f .sender .ip .0) (address .0)
+
+abbrev pub probesFor : Frame → Ipv4Address → Bool
+probesFor f address = eqb (f .operation) 1 && eqb (f .sender .ip .0) 0 && eqb (f .target .ip .0) (address .0)
+
+-- "It's a conflict if
+-- - the record is probing and the sender IP is its address, whatever the sender hardware or operation; or
+-- - it's probing, operation 1, sender IP zero, target IP its address, sender hardware not ours; or
+-- - it's usable, sender IP its address, sender hardware not ours."
+-- "A deadline that has passed without a tick changes nothing here: the stage decides."
+abbrev pub isConflictAt : HardwareAddress → Frame → Ipv4Address → Stage → Bool
+isConflictAt own f address Free = false
+isConflictAt own f address (Probing sent deadline) =
+    isFrom f address || (probesFor f address && not (isOurs own (f .sender .hardware)))
+isConflictAt own f address (Announced deadline conflict) = isFrom f address && not (isOurs own (f .sender .hardware))
+isConflictAt own f address (Settled conflict) = isFrom f address && not (isOurs own (f .sender .hardware))
+
+abbrev pub isConflict : HardwareAddress → Frame → Record → Bool
+isConflict own f r = isConflictAt own f (r .address) (r .stage)
+
+-- "A conflict adds one to the count unless it is 10."
+abbrev pub countUp : ℕ → ℕ
+countUp count = cond (eqb count (rfc5227 .maxConflicts)) count (suc count)
+
+-- "A usable one goes by policy (section 2.4): 1, lost; 2, defend if no conflict was seen before in this use or the last seen was 10,000 ms
+-- ago or more, else lost; 3, the same but 'kept' without a frame in place of lost."
+abbrev pub byPolicy : ℕ → Time → Moment → Response
+byPolicy policy now last =
+    cond (eqb policy 1) Lose
+    (cond (not (isWithin (rfc5227 .defendInterval) now last)) Defend
+    (cond (eqb policy 2) Lose Keep))
+
+-- "A probing record is lost." No packet is a conflict with a free one.
+abbrev pub responseAt : ℕ → Time → Stage → Response
+responseAt policy now Free = Keep
+responseAt policy now (Probing sent deadline) = Lose
+responseAt policy now (Announced deadline conflict) = byPolicy policy now conflict
+responseAt policy now (Settled conflict) = byPolicy policy now conflict
+
+unfoldable pub response : Time → Record → Response
+response now r = responseAt (r .policy) now (r .stage)
+
+-- "Each conflict seen, answered or not, becomes the last one seen."
+abbrev pub seenAt : Time → Stage → Stage
+seenAt now Free = Free
+seenAt now (Probing sent deadline) = Probing sent deadline
+seenAt now (Announced deadline conflict) = Announced deadline (At now)
+seenAt now (Settled conflict) = Settled (At now)
+
+-- What each response leaves of the record, the frame that it sends, and the kind that is reported. "The slot is free at once."
+abbrev pub recordAfter : Response → Time → Record → Record
+recordAfter Lose now r = freeRecord
+recordAfter Defend now r = withStage r (seenAt now (r .stage))
+recordAfter Keep now r = withStage r (seenAt now (r .stage))
+
+abbrev pub defence : HardwareAddress → Record → Response → Option Frame
+defence own r Lose = none
+defence own r Defend = some (announcement own (r .address))
+defence own r Keep = none
+
+abbrev pub responseKind : Response → Kind
+responseKind Lose = Kind.Lost
+responseKind Defend = Kind.Defend
+responseKind Keep = Kind.Kept

@@ -1,0 +1,34 @@
+-- `engine_calls::decide`: each call.
+use borrow.Author.Needs.{needs}
+use Rattle.engine_calls.proofs.CallsLaws.{decide-ends}
+use Rattle.engine_calls.proofs.decide.Statement.{statement}
+use Rattle.engine_calls.proofs.decide.Tie as tie
+
+returns : tie.Need-returns
+returns c = search decide-ends
+
+returns-2 : tie.Need-returns-2
+returns-2 c = search decide-ends
+
+returns-3 : tie.Need-returns-3
+returns-3 c = search decide-ends
+
+returns-4 : tie.Need-returns-4
+returns-4 c = search decide-ends
+
+pub decide-spec : {M : Type 1} → statement M
+decide-spec =
+    tie.close
+    (tie.spec
+    (λ c. search needs)
+    (λ c κs. search needs)
+    (λ c. search needs)
+    (λ c κs. search needs)
+    (λ c. search needs)
+    (λ c κs. search needs)
+    (λ c. search needs)
+    (λ c κs. search needs)
+    returns
+    returns-2
+    returns-3
+    returns-4)

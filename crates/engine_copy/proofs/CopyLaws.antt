@@ -1,0 +1,59 @@
+-- A law for each way that a function ends.
+use Prim.Native.Nat.{ℕ}
+use mathlib.Core.Path.{_≡_, refl, sym, ap, _∙_}
+use mathlib.Core.List.{List, [], _∷_}
+use native.Mathlib.Omega.{arith}
+use lib.ListN.{length, getD}
+use Rattle.basis.specs.declared.Interface.{Interface}
+use Rattle.basis.specs.declared.Moment.{Moment}
+use Rattle.basis.specs.declared.Moment.the-variants.{At}
+use Rattle.basis.specs.declared.Record.{Record}
+use Rattle.basis.specs.declared.Stage.{Stage}
+use Rattle.basis.specs.declared.Stage.the-variants.{Probing, Announced, Settled}
+use Rattle.basis.specs.declared.Time.{Time}
+
+pub moment-copied : (from : Moment) (time : Time) → from ≡ At time → At time ≡ from
+moment-copied from time e = sym e
+
+module _ (from : Stage) where
+  pub probing-copied : (sent : ℕ) (deadline : Time) → from ≡ Probing sent deadline → Probing sent deadline ≡ from
+  probing-copied sent deadline e = sym e
+
+  module _ (seen copy : Moment) (same : copy ≡ seen) where
+    pub announced-copied : (deadline : Time) → from ≡ Announced deadline seen → Announced deadline copy ≡ from
+    announced-copied deadline e = ap (Announced deadline) same ∙ sym e
+
+    pub settled-copied : from ≡ Settled seen → Settled copy ≡ from
+    settled-copied e = ap Settled same ∙ sym e
+
+pub ruleset stage-ends = (probing-copied, announced-copied, settled-copied)
+
+pub slot-copied : (from : Record) (stage : Stage) → stage ≡ from .stage →
+    record { address = from .address; policy = from .policy; stage = stage } ≡ from
+slot-copied from stage e = rw e
+
+pub four-records : (records : List Record) → length records ≡ 4 → (none : Record) →
+    getD records 0 none ∷ getD records 1 none ∷ getD records 2 none ∷ getD records 3 none ∷ [] ≡ records
+four-records [] four none = absurd (omega arith)
+four-records (a ∷ []) four none = absurd (omega arith)
+four-records (a ∷ b ∷ []) four none = absurd (omega arith)
+four-records (a ∷ b ∷ c ∷ []) four none = absurd (omega arith)
+four-records (a ∷ b ∷ c ∷ d ∷ []) four none = refl
+four-records (a ∷ b ∷ c ∷ d ∷ e ∷ rest) four none = absurd (omega arith)
+
+pub slots-copied : (from : List Record) → length from ≡ 4 → (none first second third fourth : Record) →
+    first ≡ getD from 0 none → second ≡ getD from 1 none → third ≡ getD from 2 none → fourth ≡ getD from 3 none →
+    first ∷ second ∷ third ∷ fourth ∷ [] ≡ from
+slots-copied from four none first second third fourth e f g h = rw (e, f, g, h) (four-records from four none)
+
+pub interface-copied : (from : Interface) (request : Moment) → request ≡ from .request →
+    (records : List Record) → records ≡ from .records →
+    record {
+      hardware = from .hardware;
+      latest = from .latest;
+      request = request;
+      conflicts = from .conflicts;
+      records = records;
+    }
+    ≡ from
+interface-copied from request e records f = rw (e, f)

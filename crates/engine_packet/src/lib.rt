@@ -1,0 +1,110 @@
+// The call packet: an ARP packet came in, and is a conflict with the record in a slot or with none.
+use engine_admission::Check;
+use basis::Frame;
+use basis::HardwareAddress;
+use basis::Interface;
+use basis::MAX_CONFLICTS;
+use basis::ReadAnswer;
+use basis::Record;
+use basis::Refusal;
+use basis::Response;
+use basis::SlotNumber;
+use basis::Time;
+use engine_decisions::Change;
+use engine_decisions::Decision;
+use engine_decisions::Outgoing;
+use engine_decisions::Verdict;
+ghost use Prim.Native.Nat.{_≤_};
+ghost use mathlib.Core.Path.{_≡_};
+ghost use mathlib.Core.Option.{none};
+ghost use Rattle.basis_engine.specs.Slots.{lowest};
+ghost use Rattle.basis_engine.specs.Conflicts.{isConflict, countUp};
+ghost use Rattle.basis_engine.specs.Conflicts as Conflicts;
+ghost use Rattle.basis_engine.specs.Refusals.{stateAndTime, packetRefusal};
+ghost use Rattle.basis_engine.specs.Calls.{packetOutcome};
+ghost use Rattle.basis_engine.specs.Calls as Call;
+ghost use Rattle.engine_admission.specs.Rows.{checkOf};
+ghost use Rattle.engine_decisions.specs.Decisions.{frameIn, Decides, Decided};
+
+// Adds one to the conflict count unless it is 10.
+fn count_up(count: u8) -> u8
+    requires { ⌜ count ≤ 10 ⌝ }
+    ensures { λ r. ⌜ r ≡ countUp count ⌝ }
+{
+    if count == MAX_CONFLICTS {
+        count
+    } else {
+        count + 1
+    }
+}
+
+// The frame that a response sends.
+fn defence(own: HardwareAddress, held: Record, chosen: Response) -> Outgoing
+    ensures { λ r. ⌜ frameIn r ≡ Conflicts.defence own held chosen ⌝ }
+{
+    let address = held.address;
+    let announcement = engine_frames::announcement(own, address);
+    match chosen {
+        Response::Lose => Outgoing::Nothing,
+        Response::Defend => Outgoing::Request(announcement),
+        Response::Keep => Outgoing::Nothing,
+    }
+}
+
+// The response to a conflict with the record in a slot.
+fn respond(state: Interface, time: Time, slot: u64, held: Record, chosen: Response) -> Decision
+    requires { ⌜ state .conflicts ≤ 10 ⌝ }
+    ensures { λ r. ⌜ Decides state (Call.respond state time slot held chosen) r ⌝ }
+{
+    let own = state.hardware;
+    let request = state.request;
+    let kind = engine_resolution::response_kind(chosen);
+    let after = engine_resolution::record_after(chosen, time, held);
+    let frame = defence(own, held, chosen);
+    Decision {
+        verdict: Verdict::Accepted(kind),
+        change: Change {
+            latest: time,
+            request,
+            conflicts: count_up(state.conflicts),
+            slot: SlotNumber::Slot(slot),
+            held: after,
+        },
+        frame,
+    }
+}
+
+// Meets a frame that was read.
+fn meet(state: Interface, time: Time, frame: Frame) -> Decision
+    requires { ⌜ state .conflicts ≤ 10 ⌝ }
+    ensures { λ r. ⌜ Decides state (Call.meet state time frame (lowest (isConflict (state .hardware) frame) (state .records))) r ⌝ }
+{
+    let own = state.hardware;
+    let records = state.records;
+    let found = engine_conflicts::conflict_slot(own, frame, records);
+    match found {
+        SlotNumber::Absent => engine_decisions::nothing(state, time),
+        SlotNumber::Slot(slot) => {
+            let held = engine_decisions::record_at(records, slot);
+            let chosen = engine_resolution::response(held, time);
+            respond(state, time, slot, held, chosen)
+        }
+    }
+}
+
+// A packet came in: the refusals in the table's order, then what it says. `admitted` has the rows 1, 3 and 4, and `room` is the
+// length of the out buffer.
+pub fn packet(state: Interface, admitted: Check, time: Time, bytes: &[u8], room: usize) -> Decision
+    requires { ⌜ checkOf admitted ≡ stateAndTime state time none ⌝ }
+    ensures { λ r. ⌜ Decided state (packetRefusal state time (now (bytes .entry)) room) (packetOutcome state time (now (bytes .entry))) r ⌝ }
+{
+    let read = frame_reader::read(bytes);
+    let check = engine_admission::row(admitted, Refusal::BufferTooShort, room < 28);
+    match check {
+        Check::Refused(refusal) => engine_decisions::refused(refusal, state),
+        Check::Passed => match read {
+            ReadAnswer::Refused(refusal) => engine_decisions::refused(refusal, state),
+            ReadAnswer::Read(frame) => meet(state, time, frame),
+        },
+    }
+}

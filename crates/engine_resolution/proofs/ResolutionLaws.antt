@@ -1,0 +1,90 @@
+-- How the tests make up the definitions of the crate basis_engine: a law for each way that a function ends.
+use Prim.Native.Nat.{ℕ}
+use mathlib.Core.Path.{_≡_}
+use mathlib.Core.Bool.{Bool, true, false, not}
+use borrow.Author.Tests.{eq-eqb, ne-eqb}
+use Rattle.basis.specs.declared.Time.{Time}
+use Rattle.basis.specs.declared.Moment.{Moment}
+use Rattle.basis.specs.declared.Moment.the-variants.{At}
+use Rattle.basis.specs.declared.Stage.{Stage}
+use Rattle.basis.specs.declared.Stage.the-variants.{Free, Probing, Announced, Settled}
+use Rattle.basis.specs.declared.Record.{Record}
+use Rattle.basis.specs.declared.Response.{Response}
+use Rattle.basis.specs.declared.Response.the-variants.{Lose, Defend, Keep}
+use Rattle.basis_engine.specs.Timing.{isWithin}
+use Rattle.basis_engine.specs.Slots.{freeRecord}
+use Rattle.basis_engine.specs.Conflicts.{byPolicy, response, seenAt, recordAfter}
+
+-- `recent` is what the test of the interval answered.
+module _ (policy : ℕ) (now : Time) (last : Moment) where
+  pub policy-1 : policy ≡ 1 → Lose ≡ byPolicy policy now last
+  policy-1 h = rw (eq-eqb policy 1 h)
+
+  module _ (other : policy ≡ 1 → ⊥) (recent : Bool) (told : recent ≡ isWithin 10_000 now last) where
+    pub policy-defends : not recent ≡ true → Defend ≡ byPolicy policy now last
+    policy-defends h = rw (ne-eqb policy 1 other, ← told, h)
+
+    pub policy-2 : not recent ≡ false → policy ≡ 2 → Lose ≡ byPolicy policy now last
+    policy-2 h k = rw (ne-eqb policy 1 other, ← told, h, eq-eqb policy 2 k)
+
+    pub policy-3 : not recent ≡ false → (policy ≡ 2 → ⊥) → Keep ≡ byPolicy policy now last
+    policy-3 h k = rw (ne-eqb policy 1 other, ← told, h, ne-eqb policy 2 k)
+
+-- Each way that `by_policy` ends.
+pub ruleset policy-ends = (policy-1, policy-defends, policy-2, policy-3)
+
+module _ (now : Time) (r : Record) where
+  pub response-free : r .stage ≡ Free → Keep ≡ response now r
+  unfolding response
+  response-free e = rw e
+
+  pub response-probing : (sent : ℕ) (deadline : Time) → r .stage ≡ Probing sent deadline → Lose ≡ response now r
+  unfolding response
+  response-probing sent deadline e = rw e
+
+  module _ (chosen : Response) (last : Moment) (told : chosen ≡ byPolicy (r .policy) now last) where
+    pub response-announced : (deadline : Time) → r .stage ≡ Announced deadline last → chosen ≡ response now r
+    unfolding response
+    response-announced deadline e = rw e told
+
+    pub response-settled : r .stage ≡ Settled last → chosen ≡ response now r
+    unfolding response
+    response-settled e = rw e told
+
+-- Each way that `response` ends.
+pub ruleset response-ends = (response-free, response-probing, response-announced, response-settled)
+
+module _ (now : Time) (stage : Stage) where
+  pub seen-free : stage ≡ Free → Free ≡ seenAt now stage
+  seen-free e = rw e
+
+  pub seen-probing : (sent : ℕ) (deadline : Time) → stage ≡ Probing sent deadline → Probing sent deadline ≡ seenAt now stage
+  seen-probing sent deadline e = rw e
+
+  pub seen-announced : (deadline : Time) (last : Moment) → stage ≡ Announced deadline last →
+      Announced deadline (At now) ≡ seenAt now stage
+  seen-announced deadline last e = rw e
+
+  pub seen-settled : (last : Moment) → stage ≡ Settled last → Settled (At now) ≡ seenAt now stage
+  seen-settled last e = rw e
+
+-- Each way that `seen_at` ends.
+pub ruleset seen-ends = (seen-free, seen-probing, seen-announced, seen-settled)
+
+module _ (now : Time) (r : Record) where
+  pub is-seen : (stage : Stage) → stage ≡ seenAt now (r .stage) →
+      record { address = r .address; policy = r .policy; stage = stage } ≡ recordAfter Keep now r
+  is-seen stage e = rw e
+
+  pub after-lose : (chosen : Response) → chosen ≡ Lose → (free : Record) → free ≡ freeRecord → free ≡ recordAfter chosen now r
+  after-lose chosen e free f = rw e f
+
+  module _ (chosen : Response) (new : Record) (told : new ≡ recordAfter Keep now r) where
+    pub after-defend : chosen ≡ Defend → new ≡ recordAfter chosen now r
+    after-defend e = rw e told
+
+    pub after-keep : chosen ≡ Keep → new ≡ recordAfter chosen now r
+    after-keep e = rw e told
+
+-- Each way that `record_after` ends.
+pub ruleset after-ends = (after-lose, after-defend, after-keep)

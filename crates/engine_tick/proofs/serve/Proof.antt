@@ -1,0 +1,11 @@
+-- `engine_tick::serve`: the kind, the stage and the frame are those of one service.
+use borrow.Author.Needs.{needs}
+use Rattle.engine_tick.proofs.TickLaws.{slot-served}
+use Rattle.engine_tick.proofs.serve.Statement.{statement}
+use Rattle.engine_tick.proofs.serve.Tie as tie
+
+returns : tie.Need-returns
+returns c = search slot-served
+
+pub serve-spec : {M : Type 1} → statement M
+serve-spec = tie.close (tie.spec (λ c κs. search needs) (λ c κs. search needs) returns)

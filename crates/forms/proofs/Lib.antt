@@ -1,3 +1,0 @@
--- What the functions' proofs cite, here and above.
-pub mod Counts
-pub mod Laws

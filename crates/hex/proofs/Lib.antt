@@ -1,2 +1,0 @@
-pub mod HexScan
-pub mod Laws

@@ -1,2 +1,0 @@
--- What the function does, and a law that the crate answers needs too.
-pub mod Laws

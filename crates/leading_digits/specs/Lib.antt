@@ -1,2 +1,0 @@
--- What the digits of src/ stand for.
-pub mod Parts

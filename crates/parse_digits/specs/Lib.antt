@@ -1,0 +1,2 @@
+-- What the digits of src/ stand for.
+pub mod LeadingDigits

@@ -1,0 +1,3 @@
+-- What the functions' proofs cite, here and above.
+pub mod Counts
+pub mod FormsLaws

@@ -1,0 +1,2 @@
+pub mod HexScan
+pub mod HexLaws

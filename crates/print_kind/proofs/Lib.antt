@@ -1,0 +1,2 @@
+-- What the function does, and a law that the crate print_answer needs too.
+pub mod KindLaws

@@ -1,0 +1,2 @@
+-- What a turn of the loop keeps.
+pub mod DriverLaws

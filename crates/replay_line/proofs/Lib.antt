@@ -1,0 +1,2 @@
+-- What the call's proof cites.
+mod LineLaws
