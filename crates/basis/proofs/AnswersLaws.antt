@@ -10,7 +10,7 @@ use Rattle.basis.specs.Answers.{kindWord, slotOf, timeOf, Accepted, answ
 use Rattle.basis.specs.Frame.{readReport, writeReport}
 use Rattle.basis.specs.Clock.{ClockReport, clockReport}
 use Rattle.basis.specs.declared.Refusal.{Refusal}
-use Rattle.basis.specs.declared.Refusal.the-variants.{StateNotSound, HardwareNotAllowed, TimeAboveRange, TimeBelowLatest, BufferTooShort, PacketTooShort, FrameUnknown, AddressNotAllowed, PolicyUnknown, AddressHeld, NoSlotFree, TooManyRequests, SlotNotHeld, LineMalformed}
+use Rattle.basis.specs.declared.Refusal.the-variants.{StateNotSound, HardwareNotAllowed, TimeAboveRange, TimeBelowLatest, BufferTooShort, PacketTooShort, FrameUnknown, AddressNotAllowed, PolicyUnknown, AddressHeld, NoSlotFree, AskedTooSoon, SlotNotHeld, LineMalformed}
 use Rattle.basis.specs.declared.Kind.{Kind}
 use Rattle.basis.specs.declared.Kind.the-variants.{Fresh, Taken, Nothing, Probe, Announce, Defend, Lost, Kept, Dropped}
 use Rattle.basis.specs.declared.SlotNumber.{SlotNumber}
@@ -30,7 +30,7 @@ use Rattle.basis.specs.declared.ClockAnswer.the-variants as ClockAnswer
 refusals : List Refusal
 refusals =
     StateNotSound ∷ HardwareNotAllowed ∷ TimeAboveRange ∷ TimeBelowLatest ∷ BufferTooShort ∷ PacketTooShort ∷ FrameUnknown
-    ∷ AddressNotAllowed ∷ PolicyUnknown ∷ AddressHeld ∷ NoSlotFree ∷ TooManyRequests ∷ SlotNotHeld ∷ LineMalformed ∷ []
+    ∷ AddressNotAllowed ∷ PolicyUnknown ∷ AddressHeld ∷ NoSlotFree ∷ AskedTooSoon ∷ SlotNotHeld ∷ LineMalformed ∷ []
 
 numbered : ℕ → Refusal
 numbered n = getD refusals (n - 1) StateNotSound
@@ -48,7 +48,7 @@ numbered-number AddressNotAllowed = refl
 numbered-number PolicyUnknown = refl
 numbered-number AddressHeld = refl
 numbered-number NoSlotFree = refl
-numbered-number TooManyRequests = refl
+numbered-number AskedTooSoon = refl
 numbered-number SlotNotHeld = refl
 numbered-number LineMalformed = refl
 

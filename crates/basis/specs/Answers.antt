@@ -4,7 +4,7 @@ use mathlib.Core.Bool.{Bool, true, false}
 use mathlib.Core.List.{List, [], _∷_}
 use mathlib.Core.Option.{Option, none, some}
 use Rattle.basis.specs.declared.Refusal.{Refusal}
-use Rattle.basis.specs.declared.Refusal.the-variants.{StateNotSound, HardwareNotAllowed, TimeAboveRange, TimeBelowLatest, BufferTooShort, PacketTooShort, FrameUnknown, AddressNotAllowed, PolicyUnknown, AddressHeld, NoSlotFree, TooManyRequests, SlotNotHeld, LineMalformed}
+use Rattle.basis.specs.declared.Refusal.the-variants.{StateNotSound, HardwareNotAllowed, TimeAboveRange, TimeBelowLatest, BufferTooShort, PacketTooShort, FrameUnknown, AddressNotAllowed, PolicyUnknown, AddressHeld, NoSlotFree, AskedTooSoon, SlotNotHeld, LineMalformed}
 use Rattle.basis.specs.declared.Kind.{Kind}
 use Rattle.basis.specs.declared.Kind.the-variants.{Fresh, Taken, Nothing, Probe, Announce, Defend, Lost, Kept, Dropped}
 use Rattle.basis.specs.declared.Moment.{Moment}
@@ -27,7 +27,7 @@ refusalNumber AddressNotAllowed = 8
 refusalNumber PolicyUnknown = 9
 refusalNumber AddressHeld = 10
 refusalNumber NoSlotFree = 11
-refusalNumber TooManyRequests = 12
+refusalNumber AskedTooSoon = 12
 refusalNumber SlotNotHeld = 13
 refusalNumber LineMalformed = 14
 

@@ -50,7 +50,7 @@ pub struct Frame {
     pub target: Host,
 }
 
-// A time that may be missing: of a request, of a conflict, or a deadline.
+// A time that may be missing: of an ask, of a conflict, or a deadline.
 pub enum Moment {
     Never,
     At(Time),
@@ -80,18 +80,18 @@ pub struct Record {
     pub stage: Stage,
 }
 
-// A network port: its own hardware address, the latest accepted time, the latest accepted request, how many conflicts
+// A network port: its own hardware address, the latest accepted time, the latest accepted ask, how many conflicts
 // there were (10: ten or more), and its four slots.
 pub struct Interface {
     pub hardware: HardwareAddress,
     pub latest: Time,
-    pub request: Moment,
+    pub asked: Moment,
     pub conflicts: u8,
     pub records: [Record; 4],
 }
 
 // What a conflict calls for: the address is given up, defended by a frame, or kept without one.
-pub enum Response {
+pub enum Resolution {
     Lose,
     Defend,
     Keep,
@@ -110,7 +110,7 @@ pub enum Refusal {
     PolicyUnknown,
     AddressHeld,
     NoSlotFree,
-    TooManyRequests,
+    AskedTooSoon,
     SlotNotHeld,
     LineMalformed,
 }

@@ -57,7 +57,7 @@ pub record Sound (s : Interface) : Type 0 where
   pub own : isOwnHardware (s .hardware) ≡ true
   pub inRange : s .latest .0 ≤ lastTime
   pub counted : s .conflicts ≤ rfc5227 .maxConflicts
-  pub requested : isPast (s .latest) (s .request) ≡ true
+  pub requested : isPast (s .latest) (s .asked) ≡ true
   pub eachSound : all (isSoundRecord (s .latest)) (s .records) ≡ true
 
 pub sound : (s : Interface) → isSound s ≡ true → Sound s
@@ -66,7 +66,7 @@ sound s e =
     let a = isOwnHardware (s .hardware) in
     let b = leb (s .latest .0) lastTime in
     let c = leb (s .conflicts) (rfc5227 .maxConflicts) in
-    let d = isPast (s .latest) (s .request) in
+    let d = isPast (s .latest) (s .asked) in
     let f = all (isSoundRecord (s .latest)) (s .records) in
     let six = and-both (a && b && c && d && f) (holdsNoneTwice (s .records)) e in
     let five = and-both (a && b && c && d) f (six .0) in
@@ -85,7 +85,7 @@ pub sound-once : (s : Interface) → isSound s ≡ true → holdsNoneTwice (s .r
 unfolding isSound
 sound-once s e =
     and-both (isOwnHardware (s .hardware) && leb (s .latest .0) lastTime && leb (s .conflicts) (rfc5227 .maxConflicts)
-    && isPast (s .latest) (s .request) && all (isSoundRecord (s .latest)) (s .records)) (holdsNoneTwice (s .records)) e .1
+    && isPast (s .latest) (s .asked) && all (isSoundRecord (s .latest)) (s .records)) (holdsNoneTwice (s .records)) e .1
 
 -- What is past stays past.
 pub past-later : (latest t : Time) (m : Moment) → latest .0 ≤ t .0 → isPast latest m ≡ true → isPast t m ≡ true

@@ -24,18 +24,18 @@ use Rattle.basis.specs.declared.Stage.the-variants.{Free, Probing, Announced, S
 use Rattle.basis.specs.declared.Record.{Record}
 use Rattle.basis.specs.declared.Interface.{Interface}
 use Rattle.basis.specs.declared.Answer.{Answer}
-use Rattle.basis.specs.declared.Response.{Response}
-use Rattle.basis.specs.declared.Response.the-variants.{Lose, Defend, Keep}
+use Rattle.basis.specs.declared.Resolution.{Resolution}
+use Rattle.basis.specs.declared.Resolution.the-variants.{Lose, Defend, Keep}
 use Rattle.basis.proofs.BytesLaws.{and-both}
 use Rattle.basis_engine.specs.Timing.{rfc5227, wait, gap, after}
 use Rattle.basis_engine.specs.Slots.{withStage, freeRecord, recordAt, putAt, all, lowest}
 use Rattle.basis_engine.specs.Interface.{isOwnHardware, isAllowed, isPolicy, isFree, isFreeStage, isHeld, holds, isPast, longestDelay, isNear, isSoundStage, isSoundRecord, holdsNoneTwice, isSound}
-use Rattle.basis_engine.specs.Conflicts.{isConflict, countUp, seenAt, recordAfter, response}
+use Rattle.basis_engine.specs.Conflicts.{isConflict, countUp, seenAt, recordAfter, resolution}
 use Rattle.basis_engine.specs.Calls.{newClaim, Call, fresh, ask, tick, packet, drop, delay, serviceAt, service, serve, meet, freshOutcome, askOutcome, tickOutcome, packetOutcome, dropOutcome}
 use Rattle.basis_engine.specs.Deadlines.{dueSlot}
 use Rattle.basis_engine.specs.Refusals.{freshRefusal}
 use Rattle.basis_engine.specs.Machine.{refusalOf, outcomeOf, resultOf, Promised}
-use Rattle.basis_engine.specs.Demand3.{Step, stateAfter, isAccepted, History}
+use Rattle.basis_engine.specs.Demand3.{Exchange, stateAfter, isAccepted, History}
 use Rattle.basis_engine.proofs.SlotLaws.{any-fails, all-holds}
 use Rattle.basis_engine.proofs.Links.{at-each}
 use Rattle.basis_engine.proofs.Invariant.{same-address, held-address, held-once, held-in-one}
@@ -175,24 +175,24 @@ module _ (s : Interface) (t : Time) (admission : Admitted s t) where
   record-sound slot = all-holds (isSoundRecord t) (s .records) slot (free-sound t) records-later
 
   -- The state after an accepted call, with these records.
-  steady-with : (request : Moment) (count : ℕ) (records : List Record) → count ≤ rfc5227 .maxConflicts → isPast t request ≡ true → all (isSoundRecord t) records ≡ true →
-      Sound (record { hardware = s .hardware; latest = t; request = request; conflicts = count; records = records })
-  steady-with request count records few past each =
+  steady-with : (asked : Moment) (count : ℕ) (records : List Record) → count ≤ rfc5227 .maxConflicts → isPast t asked ≡ true → all (isSoundRecord t) records ≡ true →
+      Sound (record { hardware = s .hardware; latest = t; asked = asked; conflicts = count; records = records })
+  steady-with asked count records few past each =
       record { own = sound s (admission .sound) .own; inRange = admission .inRange; counted = few; requested = past; eachSound = each }
 
   few-conflicts : s .conflicts ≤ rfc5227 .maxConflicts
   few-conflicts = sound s (admission .sound) .counted
 
-  request-past : isPast t (s .request) ≡ true
-  request-past = past-later (s .latest) t (s .request) (admission .notBefore) (sound s (admission .sound) .requested)
+  asked-past : isPast t (s .asked) ≡ true
+  asked-past = past-later (s .latest) t (s .asked) (admission .notBefore) (sound s (admission .sound) .requested)
 
   steady-set : (count slot : ℕ) (new : Record) → count ≤ rfc5227 .maxConflicts → isSoundRecord t new ≡ true →
-      Sound (record { hardware = s .hardware; latest = t; request = s .request; conflicts = count; records = set (s .records) slot new })
+      Sound (record { hardware = s .hardware; latest = t; asked = s .asked; conflicts = count; records = set (s .records) slot new })
   steady-set count slot new few e =
-      steady-with (s .request) count (set (s .records) slot new) few request-past (all-set (isSoundRecord t) (s .records) slot new e records-later)
+      steady-with (s .asked) count (set (s .records) slot new) few asked-past (all-set (isSoundRecord t) (s .records) slot new e records-later)
 
-  steady-same : Sound (record { hardware = s .hardware; latest = t; request = s .request; conflicts = s .conflicts; records = s .records })
-  steady-same = steady-with (s .request) (s .conflicts) (s .records) few-conflicts request-past records-later
+  steady-same : Sound (record { hardware = s .hardware; latest = t; asked = s .asked; conflicts = s .conflicts; records = s .records })
+  steady-same = steady-with (s .asked) (s .conflicts) (s .records) few-conflicts asked-past records-later
 
   tick-steady : (draw : ℕ) (o : Option ℕ) → Sound (serve s t draw o .state)
   unfolding service
@@ -203,7 +203,7 @@ module _ (s : Interface) (t : Time) (admission : Admitted s t) where
       (restaged-sound t r (serviceAt (s .hardware) (r .address) t draw (r .stage) .stage) (record-sound slot)
       (served-sound (s .hardware) (r .address) t draw (r .stage)) (service-free (s .hardware) (r .address) t draw (r .stage)))
 
-  after-sound : (chosen : Response) (r : Record) → isSoundRecord t r ≡ true → isSoundRecord t (recordAfter chosen t r) ≡ true
+  after-sound : (chosen : Resolution) (r : Record) → isSoundRecord t r ≡ true → isSoundRecord t (recordAfter chosen t r) ≡ true
   after-sound Lose r e = free-sound t
   after-sound Defend r e = restaged-sound t r (seenAt t (r .stage)) e (seen-sound t (r .stage)) (λ free. seen-free t (r .stage) ∙ free)
   after-sound Keep r e = restaged-sound t r (seenAt t (r .stage)) e (seen-sound t (r .stage)) (λ free. seen-free t (r .stage) ∙ free)
@@ -212,7 +212,7 @@ module _ (s : Interface) (t : Time) (admission : Admitted s t) where
   packet-steady f none = steady-same
   packet-steady f (some slot) =
       let r = recordAt (s .records) slot in
-      steady-set (countUp (s .conflicts)) slot (recordAfter (response t r) t r) (counted-up (s .conflicts) few-conflicts) (after-sound (response t r) r (record-sound slot))
+      steady-set (countUp (s .conflicts)) slot (recordAfter (resolution t r) t r) (counted-up (s .conflicts) few-conflicts) (after-sound (resolution t r) r (record-sound slot))
 
   ask-steady : (address : Ipv4Address) (policy draw : ℕ) (o : Option ℕ) → isAllowed address ≡ true → isPolicy policy ≡ true →
       all (isSoundRecord t) (putAt (s .records) o (newClaim t address policy draw)) ≡ true
@@ -294,12 +294,12 @@ module _ (s : Interface) (once : holdsNoneTwice (s .records) ≡ true) (t : Time
 
   packet-once : (f : Frame) (o : Option ℕ) → holdsNoneTwice (meet s t f o .state .records) ≡ true
   packet-once f none = once
-  packet-once f (some slot) = by (response t r)
+  packet-once f (some slot) = by (resolution t r)
     where
       r : Record
       r = recordAt (s .records) slot
 
-      by : (chosen : Response) → holdsNoneTwice (set (s .records) slot (recordAfter chosen t r)) ≡ true
+      by : (chosen : Resolution) → holdsNoneTwice (set (s .records) slot (recordAfter chosen t r)) ≡ true
       by Lose = freed-once (s .records) once slot
       by Defend = restaged-once (s .records) once slot (seenAt t (r .stage)) (λ free. seen-free t (r .stage) ∙ free)
       by Keep = restaged-once (s .records) once slot (seenAt t (r .stage)) (λ free. seen-free t (r .stage) ∙ free)
@@ -339,17 +339,17 @@ stays-sound s call sound-before = go (refusalOf s call) refl
     go none e = accepted-sound s call e
     go (some n) e = sound-before
 
-history-sound : (start : Interface) → isSound start ≡ true → (steps : List Step) → History start steps → isSound (stateAfter start steps) ≡ true
+history-sound : (start : Interface) → isSound start ≡ true → (exchanges : List Exchange) → History start exchanges → isSound (stateAfter start exchanges) ≡ true
 unfolding History
 history-sound start begun [] h = begun
-history-sound start begun (step ∷ earlier) h =
+history-sound start begun (exchange ∷ earlier) h =
     subst (λ (s : Interface). isSound s ≡ true) (sym (h .0 .handedBack))
-    (stays-sound (stateAfter start earlier) (step .call) (history-sound start begun earlier (h .2)))
+    (stays-sound (stateAfter start earlier) (exchange .call) (history-sound start begun earlier (h .2)))
 
 pub always-sound : (own : HardwareAddress) (before start : Interface) (answer : Answer) → Promised before (fresh own) answer start [] →
-    isAccepted (answerReport answer) ≡ true → (steps : List Step) → History start steps → isSound (stateAfter start steps) ≡ true
+    isAccepted (answerReport answer) ≡ true → (exchanges : List Exchange) → History start exchanges → isSound (stateAfter start exchanges) ≡ true
 unfolding refusalOf outcomeOf
-always-sound own before start answer promised taken steps history =
+always-sound own before start answer promised taken exchanges history =
     let facts = fresh-accepted own before start answer promised taken in
     let begun : isSound start ≡ true = rw (facts .1) (accepted-sound before (fresh own) (facts .0)) in
-    history-sound start begun steps history
+    history-sound start begun exchanges history

@@ -5,7 +5,7 @@ use Rattle.basis.specs.Clock.{clockStep, clockRefusal, clockOf}
 use Rattle.basis_engine.specs.Slots.{any, all, lowestFrom}
 use Rattle.basis_engine.specs.Interface.{isOwnHardware, isAllowed, isSoundStage, isSoundRecord, holdsNoneTwice, isSound}
 use Rattle.basis_engine.specs.Deadlines.{smallestDeadline, dueSlot}
-use Rattle.basis_engine.specs.Conflicts.{response}
+use Rattle.basis_engine.specs.Conflicts.{resolution}
 use Rattle.basis_engine.specs.Calls.{service, freshOutcome, askOutcome, tickOutcome, packetOutcome}
 use Rattle.basis_engine.specs.Refusals.{stateAndTime, freshRefusal, askRefusal, tickRefusal, packetRefusal}
 use Rattle.basis_engine.specs.Machine.{refusalOf, outcomeOf, resultOf}
@@ -16,7 +16,7 @@ pub bench-cases : BenchCases
 unfolding
     frameBytes probe announcement frameOf isKnownFrame readRefusal framePut clockStep clockRefusal clockOf
     any all lowestFrom isOwnHardware isAllowed isSoundStage isSoundRecord holdsNoneTwice isSound
-    smallestDeadline response askOutcome packetOutcome stateAndTime askRefusal packetRefusal refusalOf outcomeOf resultOf answers
+    smallestDeadline resolution askOutcome packetOutcome stateAndTime askRefusal packetRefusal refusalOf outcomeOf resultOf answers
 bench-cases = refl
 
 pub whole-case : WholeCase

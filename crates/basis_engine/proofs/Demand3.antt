@@ -25,77 +25,77 @@ use Rattle.basis_engine.specs.Calls.{Call, fresh, ask, tick, packet, dro
 use Rattle.basis_engine.specs.Refusals.{freshRefusal}
 use Rattle.basis_engine.specs.Machine.{Result, refusalOf, outcomeOf, lent, resultAs, resultOf, Promised}
 use Rattle.basis_engine.specs.Claims.{Event, Mark, Claim, isInUse, claimsBy, claimsOf, latestOn, asksBy, asksAfterTenth, conflictCount, mark, anAnnouncement, aDefence, timesOf, signNumber, isAny}
-use Rattle.basis_engine.specs.Demand3.{Step, stateAfter, isAccepted, isFresh, History, eventOf, events, stateLeft, plainMachine, resultIn, isUsableIn, isUsable, Each, WentThrough, LatestWentThrough, SendsFew, DefendsSeldom, acceptedOnly, CountForNothing, Theorem}
+use Rattle.basis_engine.specs.Demand3.{Exchange, stateAfter, isAccepted, isFresh, History, eventOf, events, stateLeft, plainMachine, resultIn, isUsableIn, isUsable, Each, WentThrough, LatestWentThrough, SendsFew, DefendsSeldom, acceptedOnly, CountForNothing, Theorem}
 use Rattle.basis_engine.proofs.SlotLaws.{any-fails, any-holds, any-slot}
 use Rattle.basis_engine.proofs.Windows.{spaced-few}
 use Rattle.basis_engine.proofs.ClaimLaws.{on, first, latest-first, on-each, each-map}
 use Rattle.basis_engine.proofs.Stories.{untouched, Bounded, InUse}
 use Rattle.basis_engine.proofs.Links.{Story, Closed, Link}
 use Rattle.basis_engine.proofs.Invariant.{Linked, LinkedAfter, linked-here, agrees-bounded}
-use Rattle.basis_engine.proofs.AskStep.{ask-step}
-use Rattle.basis_engine.proofs.TickStep.{tick-step}
-use Rattle.basis_engine.proofs.PacketStep.{packet-step}
-use Rattle.basis_engine.proofs.DropStep.{drop-step}
+use Rattle.basis_engine.proofs.AskCase.{ask-exchange}
+use Rattle.basis_engine.proofs.TickCase.{tick-exchange}
+use Rattle.basis_engine.proofs.PacketCase.{packet-exchange}
+use Rattle.basis_engine.proofs.DropCase.{drop-exchange}
 
--- (a): a result is known by its three parts, so each step is the plain machine's.
-step-result : (before : Interface) (step : Step) → Promised before (step .call) (step .answer) (step .state) (step .out) →
-    resultIn step ≡ resultOf before (step .call)
-step-result before step promised i =
+-- (a): a result is known by its three parts, so each exchange is the plain machine's.
+exchange-result : (before : Interface) (exchange : Exchange) → Promised before (exchange .call) (exchange .answer) (exchange .state) (exchange .out) →
+    resultIn exchange ≡ resultOf before (exchange .call)
+exchange-result before exchange promised i =
     record { report = promised .answered i; state = promised .handedBack i; out = promised .written i }
 
-state-left : (start : Interface) (steps : List Step) → stateLeft start (map resultIn steps) ≡ stateAfter start steps
+state-left : (start : Interface) (exchanges : List Exchange) → stateLeft start (map resultIn exchanges) ≡ stateAfter start exchanges
 state-left start [] = refl
-state-left start (step ∷ earlier) = refl
+state-left start (exchange ∷ earlier) = refl
 
-as-the-machine : (start : Interface) (steps : List Step) → History start steps →
-    map resultIn steps ≡ plainMachine start (map (λ (step : Step). step .call) steps)
+as-the-machine : (start : Interface) (exchanges : List Exchange) → History start exchanges →
+    map resultIn exchanges ≡ plainMachine start (map (λ (exchange : Exchange). exchange .call) exchanges)
 unfolding History plainMachine
 as-the-machine start [] h = refl
-as-the-machine start (step ∷ earlier) h =
+as-the-machine start (exchange ∷ earlier) h =
     rw (← as-the-machine start earlier (h .2), state-left start earlier)
-    (ap {B = List Result} (λ result. result ∷ map resultIn earlier) (step-result (stateAfter start earlier) step (h .0)))
+    (ap {B = List Result} (λ result. result ∷ map resultIn earlier) (exchange-result (stateAfter start earlier) exchange (h .0)))
 
 -- Every accepted call but fresh keeps the link.
-call-step : (own : HardwareAddress) (s : Interface) (claims : List Claim) (asks : List ℕ) → Linked own s claims asks → (call : Call) →
+call-exchange : (own : HardwareAddress) (s : Interface) (claims : List Claim) (asks : List ℕ) → Linked own s claims asks → (call : Call) →
     isFresh call ≡ false → refusalOf s call ≡ none → LinkedAfter own claims asks call (outcomeOf s call)
 unfolding refusalOf outcomeOf
-call-step own s claims asks linked (fresh hardware) old e = absurd (true≢false old)
-call-step own s claims asks linked (ask time address policy draw) old e = ask-step own s claims asks linked time address policy draw e
-call-step own s claims asks linked (tick time draw out) old e = tick-step own s claims asks linked time draw out e
-call-step own s claims asks linked (packet time bytes out) old e = packet-step own s claims asks linked time bytes out e
-call-step own s claims asks linked (drop time slot) old e = drop-step own s claims asks linked time slot e
+call-exchange own s claims asks linked (fresh hardware) old e = absurd (true≢false old)
+call-exchange own s claims asks linked (ask time address policy draw) old e = ask-exchange own s claims asks linked time address policy draw e
+call-exchange own s claims asks linked (tick time draw out) old e = tick-exchange own s claims asks linked time draw out e
+call-exchange own s claims asks linked (packet time bytes out) old e = packet-exchange own s claims asks linked time bytes out e
+call-exchange own s claims asks linked (drop time slot) old e = drop-exchange own s claims asks linked time slot e
 
 pub not-fresh : (b : Bool) → (b && true) ≡ false → b ≡ false
 not-fresh true e = e
 not-fresh false e = refl
 
 module _ (own : HardwareAddress) (before : Interface) (claims : List Claim) (asks : List ℕ) (linked : Linked own before claims asks) (call : Call) where
-  -- A step with this refusal, or none.
-  step-by : (refusal : Option ℕ) → refusalOf before call ≡ refusal → (report : Report Accepted) (state : Interface) (out : List ℕ) →
+  -- An exchange with this refusal, or none.
+  exchange-by : (refusal : Option ℕ) → refusalOf before call ≡ refusal → (report : Report Accepted) (state : Interface) (out : List ℕ) →
       report ≡ resultAs refusal before (lent call) (outcomeOf before call) .report →
       state ≡ resultAs refusal before (lent call) (outcomeOf before call) .state →
       out ≡ resultAs refusal before (lent call) (outcomeOf before call) .out →
       (isFresh call && isAccepted report) ≡ false →
       Linked own state (claimsBy own (record { call = call; report = report; out = out }) report claims) (asksBy call report claims asks)
-  step-by (some n) e report state out answered kept written old = rw (answered, kept) linked
-  step-by none e report state out answered kept written old =
-      rw (answered, kept, written) (call-step own before claims asks linked call (not-fresh (isFresh call) (rw answered at old)) e)
+  exchange-by (some n) e report state out answered kept written old = rw (answered, kept) linked
+  exchange-by none e report state out answered kept written old =
+      rw (answered, kept, written) (call-exchange own before claims asks linked call (not-fresh (isFresh call) (rw answered at old)) e)
 
-  step-linked : (answer : Answer) (state : Interface) (out : List ℕ) → Promised before call answer state out →
+  exchange-linked : (answer : Answer) (state : Interface) (out : List ℕ) → Promised before call answer state out →
       (isFresh call && isAccepted (answerReport answer)) ≡ false →
       Linked own state (claimsBy own (record { call = call; report = answerReport answer; out = out }) (answerReport answer) claims)
       (asksBy call (answerReport answer) claims asks)
   unfolding resultOf
-  step-linked answer state out promised old =
-      step-by (refusalOf before call) refl (answerReport answer) state out (promised .answered) (promised .handedBack) (promised .written) old
+  exchange-linked answer state out promised old =
+      exchange-by (refusalOf before call) refl (answerReport answer) state out (promised .answered) (promised .handedBack) (promised .written) old
 
-pub history-linked : (own : HardwareAddress) (start : Interface) → Linked own start [] [] → (steps : List Step) → History start steps →
-    Linked own (stateAfter start steps) (claimsOf own (events steps)) (asksAfterTenth own (events steps))
+pub history-linked : (own : HardwareAddress) (start : Interface) → Linked own start [] [] → (exchanges : List Exchange) → History start exchanges →
+    Linked own (stateAfter start exchanges) (claimsOf own (events exchanges)) (asksAfterTenth own (events exchanges))
 unfolding History claimsOf asksAfterTenth
 history-linked own start begun [] h = begun
-history-linked own start begun (step ∷ earlier) h =
-    step-linked own (stateAfter start earlier) (claimsOf own (events earlier)) (asksAfterTenth own (events earlier))
-    (history-linked own start begun earlier (h .2)) (step .call) (step .answer) (step .state) (step .out) (h .0) (h .1)
+history-linked own start begun (exchange ∷ earlier) h =
+    exchange-linked own (stateAfter start earlier) (claimsOf own (events earlier)) (asksAfterTenth own (events earlier))
+    (history-linked own start begun earlier (h .2)) (exchange .call) (exchange .answer) (exchange .state) (exchange .out) (h .0) (h .1)
 
 -- (b): the latest claim on a usable address went through, and the address of a latest claim that went through is usable.
 in-use-through : (policy : ℕ) (conflict : Moment) (sent : ℕ) (c : Claim) → c .policy ≡ policy → InUse policy conflict sent (c .marks) →
@@ -185,14 +185,14 @@ all-bounded : (own : HardwareAddress) (s : Interface) (claims : List Claim) (ask
 all-bounded own s claims asks linked =
     on-each (λ c. Bounded (c .marks)) claims (λ address. link-bounded address (s .records) (on address claims) (linked .links address))
 
--- (f): a refused step leaves the state and counts for nothing.
-refused-state : (before : Interface) (step : Step) → Promised before (step .call) (step .answer) (step .state) (step .out) →
-    isAccepted (answerReport (step .answer)) ≡ false → step .state ≡ before
+-- (f): a refused exchange leaves the state and counts for nothing.
+refused-state : (before : Interface) (exchange : Exchange) → Promised before (exchange .call) (exchange .answer) (exchange .state) (exchange .out) →
+    isAccepted (answerReport (exchange .answer)) ≡ false → exchange .state ≡ before
 unfolding resultOf
-refused-state before step promised denied = go (refusalOf before (step .call)) (promised .answered) (promised .handedBack)
+refused-state before exchange promised denied = go (refusalOf before (exchange .call)) (promised .answered) (promised .handedBack)
   where
-    go : (refusal : Option ℕ) → answerReport (step .answer) ≡ resultAs refusal before (lent (step .call)) (outcomeOf before (step .call)) .report →
-        step .state ≡ resultAs refusal before (lent (step .call)) (outcomeOf before (step .call)) .state → step .state ≡ before
+    go : (refusal : Option ℕ) → answerReport (exchange .answer) ≡ resultAs refusal before (lent (exchange .call)) (outcomeOf before (exchange .call)) .report →
+        exchange .state ≡ resultAs refusal before (lent (exchange .call)) (outcomeOf before (exchange .call)) .state → exchange .state ≡ before
     go none answered kept = absurd (true≢false (rw answered at denied))
     go (some n) answered kept = kept
 
@@ -207,10 +207,10 @@ refused-asks call (refused n) claims asks denied = refl
 refused-asks call (accepted answer) claims asks denied = absurd (true≢false denied)
 
 module _ (own : HardwareAddress) (start : Interface) where
-  accepted-counts : (step : Step) (earlier others : List Step) → CountForNothing own start earlier others → History start (step ∷ earlier) →
-      CountForNothing own start (step ∷ earlier) (step ∷ others)
+  accepted-counts : (exchange : Exchange) (earlier others : List Exchange) → CountForNothing own start earlier others → History start (exchange ∷ earlier) →
+      CountForNothing own start (exchange ∷ earlier) (exchange ∷ others)
   unfolding History claimsOf asksAfterTenth
-  accepted-counts step earlier others w h =
+  accepted-counts exchange earlier others w h =
       record {
         isHistory = (rw (w .sameState) (h .0), h .1, w .isHistory);
         sameState = refl;
@@ -218,28 +218,28 @@ module _ (own : HardwareAddress) (start : Interface) where
         sameAsks = rw (w .sameClaims, w .sameAsks);
       }
 
-  refused-counts : (step : Step) (earlier others : List Step) → CountForNothing own start earlier others → History start (step ∷ earlier) →
-      isAccepted (answerReport (step .answer)) ≡ false → CountForNothing own start (step ∷ earlier) others
+  refused-counts : (exchange : Exchange) (earlier others : List Exchange) → CountForNothing own start earlier others → History start (exchange ∷ earlier) →
+      isAccepted (answerReport (exchange .answer)) ≡ false → CountForNothing own start (exchange ∷ earlier) others
   unfolding History claimsOf asksAfterTenth
-  refused-counts step earlier others w h denied =
+  refused-counts exchange earlier others w h denied =
       record {
         isHistory = w .isHistory;
-        sameState = w .sameState ∙ sym (refused-state (stateAfter start earlier) step (h .0) denied);
-        sameClaims = w .sameClaims ∙ sym (refused-claims own (eventOf step) (answerReport (step .answer)) (claimsOf own (events earlier)) denied);
+        sameState = w .sameState ∙ sym (refused-state (stateAfter start earlier) exchange (h .0) denied);
+        sameClaims = w .sameClaims ∙ sym (refused-claims own (eventOf exchange) (answerReport (exchange .answer)) (claimsOf own (events earlier)) denied);
         sameAsks = w .sameAsks
-            ∙ sym (refused-asks (step .call) (answerReport (step .answer)) (claimsOf own (events earlier)) (asksAfterTenth own (events earlier)) denied);
+            ∙ sym (refused-asks (exchange .call) (answerReport (exchange .answer)) (claimsOf own (events earlier)) (asksAfterTenth own (events earlier)) denied);
       }
 
-  refused-count-for-nothing : (steps : List Step) → History start steps → CountForNothing own start steps (acceptedOnly steps)
+  refused-count-for-nothing : (exchanges : List Exchange) → History start exchanges → CountForNothing own start exchanges (acceptedOnly exchanges)
   unfolding acceptedOnly History
   refused-count-for-nothing [] h = record { isHistory = tt; sameState = refl; sameClaims = refl; sameAsks = refl }
-  refused-count-for-nothing (step ∷ earlier) h =
-      go (isAccepted (answerReport (step .answer))) refl (refused-count-for-nothing earlier (h .2))
+  refused-count-for-nothing (exchange ∷ earlier) h =
+      go (isAccepted (answerReport (exchange .answer))) refl (refused-count-for-nothing earlier (h .2))
     where
-      go : (b : Bool) → isAccepted (answerReport (step .answer)) ≡ b → CountForNothing own start earlier (acceptedOnly earlier) →
-          CountForNothing own start (step ∷ earlier) (cond b (step ∷ acceptedOnly earlier) (acceptedOnly earlier))
-      go true e w = accepted-counts step earlier (acceptedOnly earlier) w h
-      go false e w = refused-counts step earlier (acceptedOnly earlier) w h e
+      go : (b : Bool) → isAccepted (answerReport (exchange .answer)) ≡ b → CountForNothing own start earlier (acceptedOnly earlier) →
+          CountForNothing own start (exchange ∷ earlier) (cond b (exchange ∷ acceptedOnly earlier) (acceptedOnly earlier))
+      go true e w = accepted-counts exchange earlier (acceptedOnly earlier) w h
+      go false e w = refused-counts exchange earlier (acceptedOnly earlier) w h e
 
 -- An accepted fresh begins with no claim.
 pub fresh-linked : (own : HardwareAddress) → Linked own (freshOutcome own .state) [] []
@@ -268,20 +268,20 @@ fresh-accepted own before start answer promised taken = go (freshRefusal own) re
 
 -- The one claim.
 pub demand3 : Theorem
-demand3 own before start answer promised taken steps history =
+demand3 own before start answer promised taken exchanges history =
     let same = fresh-accepted own before start answer promised taken .1 in
     let begun : Linked own start [] [] = rw same (fresh-linked own) in
-    let linked = history-linked own start begun steps history in
-    let claims = claimsOf own (events steps) in
-    let asks = asksAfterTenth own (events steps) in
-    let bounded = all-bounded own (stateAfter start steps) claims asks linked in
+    let linked = history-linked own start begun exchanges history in
+    let claims = claimsOf own (events exchanges) in
+    let asks = asksAfterTenth own (events exchanges) in
+    let bounded = all-bounded own (stateAfter start exchanges) claims asks linked in
     record {
       begunAsTheMachine = same;
-      asTheMachine = rw (← same) (as-the-machine start steps history);
-      usableExactlyIf = usable-exactly-if own (stateAfter start steps) claims asks linked;
+      asTheMachine = rw (← same) (as-the-machine start exchanges history);
+      usableExactlyIf = usable-exactly-if own (stateAfter start exchanges) claims asks linked;
       fewFrames = each-map (λ c. Bounded (c .marks)) SendsFew (λ c b. (b .fewProbes, b .fewAnnouncements)) claims bounded;
       fewDefences = each-map (λ c. Bounded (c .marks)) DefendsSeldom
           (λ c b. spaced-few (rfc5227 .defendInterval) (omega arith) (timesOf aDefence (c .marks)) (b .defencesApart)) claims bounded;
       fewAsks = spaced-few (rfc5227 .rateLimitInterval) (omega arith) asks (linked .asksApart);
-      refusedCountForNothing = refused-count-for-nothing own start steps history;
+      refusedCountForNothing = refused-count-for-nothing own start exchanges history;
     }

@@ -10,7 +10,7 @@ use Rattle.basis.specs.Times.{lastTime}
 use Rattle.basis.specs.Answers.{_if_else_, refusalNumber, reported, refused, accepted, Accepted, slotOf, timeOf, answerReport}
 use Rattle.basis.specs.Frame.{isKnownFrame, readRefusal}
 use Rattle.basis.specs.declared.Refusal.{Refusal}
-use Rattle.basis.specs.declared.Refusal.the-variants.{StateNotSound, HardwareNotAllowed, TimeAboveRange, TimeBelowLatest, BufferTooShort, PacketTooShort, FrameUnknown, AddressNotAllowed, PolicyUnknown, AddressHeld, NoSlotFree, TooManyRequests, SlotNotHeld}
+use Rattle.basis.specs.declared.Refusal.the-variants.{StateNotSound, HardwareNotAllowed, TimeAboveRange, TimeBelowLatest, BufferTooShort, PacketTooShort, FrameUnknown, AddressNotAllowed, PolicyUnknown, AddressHeld, NoSlotFree, AskedTooSoon, SlotNotHeld}
 use Rattle.basis.specs.declared.SlotNumber.{SlotNumber}
 use Rattle.basis.specs.declared.SlotNumber.the-variants.{Absent, Slot}
 use Rattle.basis.specs.declared.Moment.{Moment}
@@ -24,7 +24,7 @@ use Rattle.basis_engine.specs.Interface.{isOwnHardware, isAllowed, isPol
 use Rattle.basis_engine.specs.Refusals.{stateAndTime, freshRefusal, isTooSoon, askRefusal, tickRefusal, packetRefusal, dropRefusal}
 use Rattle.basis_engine.specs.Calls.{Call, fresh, ask, tick, packet, drop}
 use Rattle.basis_engine.specs.Machine.{refusalOf, outcomeOf, acceptedAs, resultOf, Promised}
-use Rattle.basis_engine.specs.Demand3.{Step, stateAfter, isAccepted, isNextFresh, History, Each}
+use Rattle.basis_engine.specs.Demand3.{Exchange, stateAfter, isAccepted, isNextFresh, History, Each}
 
 -- Each number in the table is that of a refusal.
 record Numbered (n : ℕ) : Type 0 where
@@ -53,7 +53,7 @@ refusal-numbered s (ask time address policy draw) =
     (given AddressNotAllowed (not (isAllowed address)) _
     (given PolicyUnknown (not (isPolicy policy)) _
     (given AddressHeld (isHeld address (s .records)) _
-    (given NoSlotFree (isNone (lowest isFree (s .records))) _ (given TooManyRequests (isTooSoon s time) none tt)))))
+    (given NoSlotFree (isNone (lowest isFree (s .records))) _ (given AskedTooSoon (isTooSoon s time) none tt)))))
 refusal-numbered s (tick time draw out) = state-and-time s time _ (given BufferTooShort (ltb (length out) 28) none tt)
 refusal-numbered s (packet time bytes out) =
     state-and-time s time _
@@ -95,7 +95,7 @@ answered none a h =
 answered (some n) a h = record { answer = Answer.Refused (h .refusal); reports = ap refused (h .number) }
 
 -- A call of a history, on any state: the machine's report, state and buffer.
-stepOn : Interface → Call → Step
+stepOn : Interface → Call → Exchange
 stepOn s call =
     record {
       call = call;
@@ -104,13 +104,13 @@ stepOn s call =
       out = resultOf s call .out;
     }
 
-step-reports : (s : Interface) (call : Call) → answerReport (stepOn s call .answer) ≡ resultOf s call .report
+exchange-reports : (s : Interface) (call : Call) → answerReport (stepOn s call .answer) ≡ resultOf s call .report
 unfolding stepOn resultOf
-step-reports s call = answered (refusalOf s call) (acceptedAs (outcomeOf s call)) (refusal-numbered s call) .reports
+exchange-reports s call = answered (refusalOf s call) (acceptedAs (outcomeOf s call)) (refusal-numbered s call) .reports
 
-step-promised : (s : Interface) (call : Call) → Promised s call (stepOn s call .answer) (stepOn s call .state) (stepOn s call .out)
+exchange-promised : (s : Interface) (call : Call) → Promised s call (stepOn s call .answer) (stepOn s call .state) (stepOn s call .out)
 unfolding stepOn
-step-promised s call = record { answered = step-reports s call; handedBack = refl; written = refl }
+exchange-promised s call = record { answered = exchange-reports s call; handedBack = refl; written = refl }
 
 -- A fresh that is accepted is so on any state.
 abbrev pub isAcceptedFresh : Call → Bool
@@ -126,26 +126,26 @@ accepted-if-none (some n) a = refl
 
 next-fresh : (s : Interface) (call : Call) → isNextFresh (stepOn s call) ≡ isAcceptedFresh call
 unfolding stepOn resultOf refusalOf
-next-fresh s (fresh hardware) = ap isAccepted (step-reports s (fresh hardware)) ∙ accepted-if-none (freshRefusal hardware) _
+next-fresh s (fresh hardware) = ap isAccepted (exchange-reports s (fresh hardware)) ∙ accepted-if-none (freshRefusal hardware) _
 next-fresh s (ask time address policy draw) = refl
 next-fresh s (tick time draw out) = refl
 next-fresh s (packet time bytes out) = refl
 next-fresh s (drop time slot) = refl
 
 pub record HasHistory (start : Interface) (calls : List Call) : Type 0 where
-  pub steps : List Step
-  pub ofTheCalls : map (λ (step : Step). step .call) steps ≡ calls
-  pub isHistory : History start steps
+  pub exchanges : List Exchange
+  pub ofTheCalls : map (λ (exchange : Exchange). exchange .call) exchanges ≡ calls
+  pub isHistory : History start exchanges
 
--- The calls stand the latest first, as the steps do.
+-- The calls stand the latest first, as the exchanges do.
 pub every-history : (start : Interface) (calls : List Call) → Each (λ call. isAcceptedFresh call ≡ false) calls → HasHistory start calls
 unfolding History stepOn
-every-history start [] none-fresh = record { steps = []; ofTheCalls = refl; isHistory = tt }
+every-history start [] none-fresh = record { exchanges = []; ofTheCalls = refl; isHistory = tt }
 every-history start (call ∷ earlier) none-fresh =
     let before = every-history start earlier (none-fresh .1) in
-    let s = stateAfter start (before .steps) in
+    let s = stateAfter start (before .exchanges) in
     record {
-      steps = stepOn s call ∷ before .steps;
+      exchanges = stepOn s call ∷ before .exchanges;
       ofTheCalls = ap (λ l. call ∷ l) (before .ofTheCalls);
-      isHistory = (step-promised s call, next-fresh s call ∙ none-fresh .0, before .isHistory);
+      isHistory = (exchange-promised s call, next-fresh s call ∙ none-fresh .0, before .isHistory);
     }

@@ -34,22 +34,22 @@ use Rattle.basis_engine.proofs.Links.{Story, Agrees, Away, Here, Link}
 
 -- Where there were asks after the tenth conflict, the count is at least 10, and the latest of them is the latest request.
 abbrev pub LastAsk : List ℕ → ℕ → Moment → Type 0
-LastAsk [] count request = Unit {0}
+LastAsk [] count asked = Unit {0}
 LastAsk (t ∷ earlier) count Never = ⊥
-LastAsk (t ∷ earlier) count (At request) = (rfc5227 .maxConflicts ≤ count) × (t ≡ request .0)
+LastAsk (t ∷ earlier) count (At asked) = (rfc5227 .maxConflicts ≤ count) × (t ≡ asked .0)
 
-pub last-ask-counts : (asks : List ℕ) (request : Moment) (count more : ℕ) → count ≤ more → LastAsk asks count request →
-    LastAsk asks more request
-last-ask-counts [] request count more h last = tt
+pub last-ask-counts : (asks : List ℕ) (asked : Moment) (count more : ℕ) → count ≤ more → LastAsk asks count asked →
+    LastAsk asks more asked
+last-ask-counts [] asked count more h last = tt
 last-ask-counts (t ∷ earlier) Never count more h last = last
-last-ask-counts (t ∷ earlier) (At request) count more h last = let ten = last .0 in (omega arith, last .1)
+last-ask-counts (t ∷ earlier) (At asked) count more h last = let ten = last .0 in (omega arith, last .1)
 
 pub record Linked (own : HardwareAddress) (s : Interface) (claims : List Claim) (asks : List ℕ) : Type 0 where
   pub hardware : s .hardware ≡ own
   pub links : (address : Ipv4Address) → Link address (s .records) (on address claims)
   pub count : s .conflicts ≡ min (conflictCount claims) (rfc5227 .maxConflicts)
   pub asksApart : Spaced (rfc5227 .rateLimitInterval) asks
-  pub lastAsk : LastAsk asks (conflictCount claims) (s .request)
+  pub lastAsk : LastAsk asks (conflictCount claims) (s .asked)
 
 -- A later time alone leaves it.
 pub linked-later : (own : HardwareAddress) (s : Interface) (claims : List Claim) (asks : List ℕ) (time : Time) → Linked own s claims asks →

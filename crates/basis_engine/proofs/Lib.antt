@@ -9,10 +9,10 @@ pub mod Acceptance
 pub mod Invariant
 pub mod ConflictLaws
 pub mod Changes
-pub mod AskStep
-pub mod DropStep
-pub mod TickStep
-pub mod PacketStep
+pub mod AskCase
+pub mod DropCase
+pub mod TickCase
+pub mod PacketCase
 pub mod PacketHead
 pub mod Demand3
 pub mod EveryHistory

@@ -10,8 +10,8 @@ use borrow.Author.Tests.{lt-ltb, ltb-false, leb-true}
 use Rattle.basis.specs.declared.Time.{Time}
 use Rattle.basis.specs.declared.Moment.{Moment}
 use Rattle.basis.specs.declared.Moment.the-variants.{Never, At}
-use Rattle.basis.specs.declared.Response.{Response}
-use Rattle.basis.specs.declared.Response.the-variants.{Lose, Defend, Keep}
+use Rattle.basis.specs.declared.Resolution.{Resolution}
+use Rattle.basis.specs.declared.Resolution.the-variants.{Lose, Defend, Keep}
 use Rattle.basis_engine.specs.Timing.{rfc5227, gap, isWithin}
 use Rattle.basis_engine.specs.Interface.{isPast}
 use Rattle.basis_engine.specs.Conflicts.{byPolicy}
@@ -279,28 +279,28 @@ pub ended-by-drop : (policy : ℕ) (t : Time) (marks : List Mark) → isOpenAfte
 unfolding isOpenAfter
 ended-by-drop policy t marks = refl
 
--- What a policy's response says: with these three tests (policy 1, policy 2, a near conflict) it is a surrender exactly where
+-- What a policy's resolution says: with these three tests (policy 1, policy 2, a near conflict) it is a surrender exactly where
 -- the address is lost, and a defence has no near conflict before it.
-response-tests : Bool → Bool → Bool → Response
-response-tests one two near = cond one Lose (cond (not near) Defend (cond two Lose Keep))
+resolution-tests : Bool → Bool → Bool → Resolution
+resolution-tests one two near = cond one Lose (cond (not near) Defend (cond two Lose Keep))
 
-lost-tests : (one two near : Bool) → response-tests one two near ≡ Lose → (one || (two && near)) ≡ true
-unfolding response-tests
+lost-tests : (one two near : Bool) → resolution-tests one two near ≡ Lose → (one || (two && near)) ≡ true
+unfolding resolution-tests
 lost-tests true two near e = refl
 lost-tests false true true e = refl
 lost-tests false false true e = cc
 lost-tests false two false e = cc
 
-defended-tests : (one two near : Bool) → response-tests one two near ≡ Defend → ((one || (two && near)) ≡ false) × (near ≡ false)
-unfolding response-tests
+defended-tests : (one two near : Bool) → resolution-tests one two near ≡ Defend → ((one || (two && near)) ≡ false) × (near ≡ false)
+unfolding resolution-tests
 defended-tests true two near e = (cc, cc)
 defended-tests false true true e = (cc, cc)
 defended-tests false false true e = (cc, cc)
 defended-tests false true false e = (refl, refl)
 defended-tests false false false e = (refl, refl)
 
-kept-tests : (one two near : Bool) → response-tests one two near ≡ Keep → (one || (two && near)) ≡ false
-unfolding response-tests
+kept-tests : (one two near : Bool) → resolution-tests one two near ≡ Keep → (one || (two && near)) ≡ false
+unfolding resolution-tests
 kept-tests true two near e = cc
 kept-tests false true true e = cc
 kept-tests false false true e = refl
@@ -314,16 +314,16 @@ module _ (policy : ℕ) (conflict : Moment) (sent : ℕ) (t : Time) (marks : Lis
   surrender-is = rw (w .inUse, w .last)
 
   pub lost-surrenders : byPolicy policy t conflict ≡ Lose → isSurrender policy marks t ≡ true
-  unfolding response-tests near
+  unfolding resolution-tests near
   lost-surrenders e = surrender-is ∙ lost-tests (eqb policy 1) (eqb policy 2) near e
 
   pub defended-bears : byPolicy policy t conflict ≡ Defend →
       (isSurrender policy marks t ≡ false) × (isWithin (rfc5227 .defendInterval) t conflict ≡ false)
-  unfolding response-tests near
+  unfolding resolution-tests near
   defended-bears e =
       let facts = defended-tests (eqb policy 1) (eqb policy 2) near e in
       (surrender-is ∙ facts .0, facts .1)
 
   pub kept-bears : byPolicy policy t conflict ≡ Keep → isSurrender policy marks t ≡ false
-  unfolding response-tests near
+  unfolding resolution-tests near
   kept-bears e = surrender-is ∙ kept-tests (eqb policy 1) (eqb policy 2) near e

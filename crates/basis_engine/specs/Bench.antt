@@ -64,11 +64,11 @@ ipv4 = record { 0 = 0xc0000207 }
 
 -- An interface that holds 192.0.2.7 in slot 0, with this policy, stage, count and request.
 abbrev pub holding : ℕ → Stage → ℕ → Moment → Interface
-holding policy stage count request =
+holding policy stage count asked =
     record {
       hardware = ours;
       latest = at 10_000;
-      request = request;
+      asked = asked;
       conflicts = count;
       records = record { address = ipv4; policy = policy; stage = stage } ∷ freeRecord ∷ freeRecord ∷ freeRecord ∷ [];
     }
@@ -113,7 +113,7 @@ cases =
       rules = answers (record {
         hardware = ours;
         latest = at 100_000;
-        request = At (at 100_000);
+        asked = At (at 100_000);
         conflicts = 10;
         records = freeRecord ∷ freeRecord ∷ freeRecord ∷ freeRecord ∷ [];
       }) (ask (at 159_999) ipv4 1 0 ∷ ask (at 160_000) ipv4 1 0 ∷ []);

@@ -15,14 +15,14 @@ use Rattle.basis.specs.declared.Stage.{Stage}
 use Rattle.basis.specs.declared.Stage.the-variants.{Free, Probing, Announced, Settled}
 use Rattle.basis.specs.declared.Record.{Record}
 use Rattle.basis.specs.declared.Interface.{Interface}
-use Rattle.basis.specs.declared.Response.{Response}
+use Rattle.basis.specs.declared.Resolution.{Resolution}
 use Rattle.basis.specs.declared.Kind.{Kind}
 use Rattle.basis.specs.declared.Kind.the-variants.{Fresh, Taken, Nothing, Probe, Announce, Dropped}
 use Rattle.basis_engine.specs.Timing.{rfc5227, wait, gap, after}
 use Rattle.basis_engine.specs.Slots.{freeRecord, withStage, recordAt, putAt, lowest}
 use Rattle.basis_engine.specs.Interface.{isFree}
 use Rattle.basis_engine.specs.Deadlines.{dueSlot}
-use Rattle.basis_engine.specs.Conflicts.{isConflict, countUp, response, recordAfter, defence, responseKind}
+use Rattle.basis_engine.specs.Conflicts.{isConflict, countUp, resolution, recordAfter, defence, resolutionKind}
 
 -- A call with its arguments. The last of a tick and of a packet is the out buffer as it was lent.
 pub data Call : Type 0 where
@@ -45,7 +45,7 @@ renewed s time records =
     record {
       hardware = s .hardware;
       latest = time;
-      request = s .request;
+      asked = s .asked;
       conflicts = s .conflicts;
       records = records;
     }
@@ -63,7 +63,7 @@ freshOutcome hardware =
       state = record {
         hardware = hardware;
         latest = record { 0 = 0 };
-        request = Never;
+        asked = Never;
         conflicts = 0;
         records = freeRecord ∷ freeRecord ∷ freeRecord ∷ freeRecord ∷ [];
       };
@@ -84,7 +84,7 @@ askOutcome s time address policy draw =
       state = record {
         hardware = s .hardware;
         latest = time;
-        request = At time;
+        asked = At time;
         conflicts = s .conflicts;
         records = putAt (s .records) (lowest isFree (s .records)) (newClaim time address policy draw);
       };
@@ -143,15 +143,15 @@ unfoldable pub tickOutcome : Interface → Time → ℕ → Outcome
 tickOutcome s time draw = serve s time draw (dueSlot time (s .records))
 
 -- Packet, where it is a conflict with the record in a slot.
-abbrev pub respond : Interface → Time → ℕ → Record → Response → Outcome
-respond s time slot r chosen =
+abbrev pub resolve : Interface → Time → ℕ → Record → Resolution → Outcome
+resolve s time slot r chosen =
     record {
-      kind = responseKind chosen;
+      kind = resolutionKind chosen;
       slot = some slot;
       state = record {
         hardware = s .hardware;
         latest = time;
-        request = s .request;
+        asked = s .asked;
         conflicts = countUp (s .conflicts);
         records = set (s .records) slot (recordAfter chosen time r);
       };
@@ -164,7 +164,7 @@ unconcerned s time f = nothing s time
 
 abbrev pub meet : Interface → Time → Frame → Option ℕ → Outcome
 meet s time f none = unconcerned s time f
-meet s time f (some slot) = respond s time slot (recordAt (s .records) slot) (response time (recordAt (s .records) slot))
+meet s time f (some slot) = resolve s time slot (recordAt (s .records) slot) (resolution time (recordAt (s .records) slot))
 
 -- Packet: "at most one record can be concerned" in a sound state (`one-concerned` in proofs/ConflictLaws.antt), so the lowest
 -- is that one.

@@ -13,8 +13,8 @@ use Rattle.basis.specs.declared.Frame.{Frame}
 use Rattle.basis.specs.declared.Stage.{Stage}
 use Rattle.basis.specs.declared.Stage.the-variants.{Free, Probing, Announced, Settled}
 use Rattle.basis.specs.declared.Record.{Record}
-use Rattle.basis.specs.declared.Response.{Response}
-use Rattle.basis.specs.declared.Response.the-variants.{Lose, Defend, Keep}
+use Rattle.basis.specs.declared.Resolution.{Resolution}
+use Rattle.basis.specs.declared.Resolution.the-variants.{Lose, Defend, Keep}
 use Rattle.basis.specs.declared.Kind.{Kind}
 use Rattle.basis.specs.declared.Kind.the-variants as Kind
 use Rattle.basis_engine.specs.Timing.{rfc5227, isWithin}
@@ -50,21 +50,21 @@ countUp count = cond (eqb count (rfc5227 .maxConflicts)) count (suc count)
 
 -- "A usable one goes by policy (section 2.4): 1, lost; 2, defend if no conflict was seen before in this use or the last seen was 10,000 ms
 -- ago or more, else lost; 3, the same but 'kept' without a frame in place of lost."
-abbrev pub byPolicy : ℕ → Time → Moment → Response
+abbrev pub byPolicy : ℕ → Time → Moment → Resolution
 byPolicy policy now last =
     cond (eqb policy 1) Lose
     (cond (not (isWithin (rfc5227 .defendInterval) now last)) Defend
     (cond (eqb policy 2) Lose Keep))
 
 -- "A probing record is lost." No packet is a conflict with a free one.
-abbrev pub responseAt : ℕ → Time → Stage → Response
-responseAt policy now Free = Keep
-responseAt policy now (Probing sent deadline) = Lose
-responseAt policy now (Announced deadline conflict) = byPolicy policy now conflict
-responseAt policy now (Settled conflict) = byPolicy policy now conflict
+abbrev pub resolutionAt : ℕ → Time → Stage → Resolution
+resolutionAt policy now Free = Keep
+resolutionAt policy now (Probing sent deadline) = Lose
+resolutionAt policy now (Announced deadline conflict) = byPolicy policy now conflict
+resolutionAt policy now (Settled conflict) = byPolicy policy now conflict
 
-unfoldable pub response : Time → Record → Response
-response now r = responseAt (r .policy) now (r .stage)
+unfoldable pub resolution : Time → Record → Resolution
+resolution now r = resolutionAt (r .policy) now (r .stage)
 
 -- "Each conflict seen, answered or not, becomes the last one seen."
 abbrev pub seenAt : Time → Stage → Stage
@@ -73,18 +73,18 @@ seenAt now (Probing sent deadline) = Probing sent deadline
 seenAt now (Announced deadline conflict) = Announced deadline (At now)
 seenAt now (Settled conflict) = Settled (At now)
 
--- What each response leaves of the record, the frame that it sends, and the kind that is reported. "The slot is free at once."
-abbrev pub recordAfter : Response → Time → Record → Record
+-- What each resolution leaves of the record, the frame that it sends, and the kind that is reported. "The slot is free at once."
+abbrev pub recordAfter : Resolution → Time → Record → Record
 recordAfter Lose now r = freeRecord
 recordAfter Defend now r = withStage r (seenAt now (r .stage))
 recordAfter Keep now r = withStage r (seenAt now (r .stage))
 
-abbrev pub defence : HardwareAddress → Record → Response → Option Frame
+abbrev pub defence : HardwareAddress → Record → Resolution → Option Frame
 defence own r Lose = none
 defence own r Defend = some (announcement own (r .address))
 defence own r Keep = none
 
-abbrev pub responseKind : Response → Kind
-responseKind Lose = Kind.Lost
-responseKind Defend = Kind.Defend
-responseKind Keep = Kind.Kept
+abbrev pub resolutionKind : Resolution → Kind
+resolutionKind Lose = Kind.Lost
+resolutionKind Defend = Kind.Defend
+resolutionKind Keep = Kind.Kept

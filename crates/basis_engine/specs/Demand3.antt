@@ -22,16 +22,16 @@ use Rattle.basis_engine.specs.Machine.{Result, resultOf, Promised}
 use Rattle.basis_engine.specs.Claims.{Event, Mark, mark, aProbe, anAnnouncement, aDefence, aConflict, timesOf, Claim, isOpen, claimsOf, latestOn, asksAfterTenth}
 
 -- A call of a history: its arguments, its answer, the state that it handed back, and its out buffer afterwards.
-pub record Step : Type 0 where
+pub record Exchange : Type 0 where
   pub call : Call
   pub answer : Answer
   pub state : Interface
   pub out : List ℕ
 
--- "Each call is handed the state that the call before it returned." A history's steps stand the latest first.
-abbrev pub stateAfter : Interface → List Step → Interface
+-- "Each call is handed the state that the call before it returned." A history's exchanges stand the latest first.
+abbrev pub stateAfter : Interface → List Exchange → Interface
 stateAfter start [] = start
-stateAfter start (step ∷ earlier) = step .state
+stateAfter start (exchange ∷ earlier) = exchange .state
 
 -- "Demand 3 speaks of the calls from one accepted fresh up to the next."
 abbrev pub isAccepted : Report Accepted → Bool
@@ -45,23 +45,23 @@ isFresh (tick time draw out) = false
 isFresh (packet time bytes out) = false
 isFresh (drop time slot) = false
 
-abbrev pub isNextFresh : Step → Bool
-isNextFresh step = isFresh (step .call) && isAccepted (answerReport (step .answer))
+abbrev pub isNextFresh : Exchange → Bool
+isNextFresh exchange = isFresh (exchange .call) && isAccepted (answerReport (exchange .answer))
 
--- "A history is its list of calls": each step is whatever the promise of the public calls allows, refused ones included.
-unfoldable pub History : Interface → List Step → Type 0
+-- "A history is its list of calls": each exchange is whatever the promise of the public calls allows, refused ones included.
+unfoldable pub History : Interface → List Exchange → Type 0
 History start [] = Unit {0}
-History start (step ∷ earlier) =
-    Promised (stateAfter start earlier) (step .call) (step .answer) (step .state) (step .out)
-    × (isNextFresh step ≡ false)
+History start (exchange ∷ earlier) =
+    Promised (stateAfter start earlier) (exchange .call) (exchange .answer) (exchange .state) (exchange .out)
+    × (isNextFresh exchange ≡ false)
     × History start earlier
 
 -- What is seen of a history from outside.
-abbrev pub eventOf : Step → Event
-eventOf step = record { call = step .call; report = answerReport (step .answer); out = step .out }
+abbrev pub eventOf : Exchange → Event
+eventOf exchange = record { call = exchange .call; report = answerReport (exchange .answer); out = exchange .out }
 
-abbrev pub events : List Step → List Event
-events steps = map eventOf steps
+abbrev pub events : List Exchange → List Event
+events exchanges = map eventOf exchanges
 
 -- "The plain machine, begun with the same fresh and fed with the same calls alone": its result at each call.
 abbrev pub stateLeft : Interface → List Result → Interface
@@ -73,8 +73,8 @@ plainMachine start [] = []
 plainMachine start (call ∷ earlier) =
     resultOf (stateLeft start (plainMachine start earlier)) call ∷ plainMachine start earlier
 
-abbrev pub resultIn : Step → Result
-resultIn step = record { report = answerReport (step .answer); state = step .state; out = step .out }
+abbrev pub resultIn : Exchange → Result
+resultIn exchange = record { report = answerReport (exchange .answer); state = exchange .state; out = exchange .out }
 
 -- "An address is usable after it if the state then holds it in a usable stage."
 abbrev pub isUsableIn : Ipv4Address → Record → Bool
@@ -135,39 +135,39 @@ abbrev pub DefendsSeldom : Claim → Type 0
 DefendsSeldom c = AtMostOneEach (rfc5227 .defendInterval) (timesOf aDefence (c .marks))
 
 -- The history without its refused calls.
-unfoldable pub acceptedOnly : List Step → List Step
+unfoldable pub acceptedOnly : List Exchange → List Exchange
 acceptedOnly [] = []
-acceptedOnly (step ∷ earlier) =
-    cond (isAccepted (answerReport (step .answer))) (step ∷ acceptedOnly earlier) (acceptedOnly earlier)
+acceptedOnly (exchange ∷ earlier) =
+    cond (isAccepted (answerReport (exchange .answer))) (exchange ∷ acceptedOnly earlier) (acceptedOnly earlier)
 
 -- That refused calls count for nothing: without them it is a history too, with the same state, claims and asks.
-pub record CountForNothing (own : HardwareAddress) (start : Interface) (steps others : List Step) : Type 0 where
+pub record CountForNothing (own : HardwareAddress) (start : Interface) (exchanges others : List Exchange) : Type 0 where
   pub isHistory : History start others
-  pub sameState : stateAfter start others ≡ stateAfter start steps
-  pub sameClaims : claimsOf own (events others) ≡ claimsOf own (events steps)
-  pub sameAsks : asksAfterTenth own (events others) ≡ asksAfterTenth own (events steps)
+  pub sameState : stateAfter start others ≡ stateAfter start exchanges
+  pub sameClaims : claimsOf own (events others) ≡ claimsOf own (events exchanges)
+  pub sameAsks : asksAfterTenth own (events others) ≡ asksAfterTenth own (events exchanges)
 
 -- "Demand 3 is a single claim about the whole history."
-pub record Demand3 (own : HardwareAddress) (start : Interface) (steps : List Step) : Type 0 where
+pub record Demand3 (own : HardwareAddress) (start : Interface) (exchanges : List Exchange) : Type 0 where
   -- (a) At fresh the state, and at each call the refusal number or whole answer, the new state and every lent byte are the
   -- plain machine's.
   pub begunAsTheMachine : start ≡ freshOutcome own .state
-  pub asTheMachine : map resultIn steps ≡ plainMachine (freshOutcome own .state) (map (λ (step : Step). step .call) steps)
+  pub asTheMachine : map resultIn exchanges ≡ plainMachine (freshOutcome own .state) (map (λ (exchange : Exchange). exchange .call) exchanges)
   -- (b) An address is usable exactly if its latest accepted ask went through and was not given up since.
   pub usableExactlyIf : (address : Ipv4Address) →
-      (isUsable address (stateAfter start steps) ≡ true) ↔ LatestWentThrough (latestOn address (claimsOf own (events steps)))
+      (isUsable address (stateAfter start exchanges) ≡ true) ↔ LatestWentThrough (latestOn address (claimsOf own (events exchanges)))
   -- (c) At most 3 probes and 2 claiming announcements an ask.
-  pub fewFrames : Each SendsFew (claimsOf own (events steps))
+  pub fewFrames : Each SendsFew (claimsOf own (events exchanges))
   -- (d) From a to b at most (b - a) / 10,000 rounded down, plus 1, defences an ask.
-  pub fewDefences : Each DefendsSeldom (claimsOf own (events steps))
+  pub fewDefences : Each DefendsSeldom (claimsOf own (events exchanges))
   -- (e) After the tenth conflict, from a to b at most (b - a) / 60,000 rounded down, plus 1, asks.
-  pub fewAsks : AtMostOneEach (rfc5227 .rateLimitInterval) (asksAfterTenth own (events steps))
+  pub fewAsks : AtMostOneEach (rfc5227 .rateLimitInterval) (asksAfterTenth own (events exchanges))
   -- (f) Refused calls count for nothing.
-  pub refusedCountForNothing : CountForNothing own start steps (acceptedOnly steps)
+  pub refusedCountForNothing : CountForNothing own start exchanges (acceptedOnly exchanges)
 
 -- The theorem: from every accepted fresh, over every history.
 abbrev pub Theorem : Type 0
 Theorem =
     (own : HardwareAddress) (before start : Interface) (answer : Answer) →
     Promised before (fresh own) answer start [] → isAccepted (answerReport answer) ≡ true →
-    (steps : List Step) → History start steps → Demand3 own start steps
+    (exchanges : List Exchange) → History start exchanges → Demand3 own start exchanges

@@ -96,7 +96,7 @@ isSound s =
     isOwnHardware (s .hardware)
     && leb (s .latest .0) lastTime
     && leb (s .conflicts) (rfc5227 .maxConflicts)
-    && isPast (s .latest) (s .request)
+    && isPast (s .latest) (s .asked)
     && all (isSoundRecord (s .latest)) (s .records)
     && holdsNoneTwice (s .records)
 
@@ -106,7 +106,7 @@ zeros =
     record {
       hardware = record { 0 = 0 };
       latest = record { 0 = 0 };
-      request = Never;
+      asked = Never;
       conflicts = 0;
       records = freeRecord ∷ freeRecord ∷ freeRecord ∷ freeRecord ∷ [];
     }

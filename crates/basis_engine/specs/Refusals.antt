@@ -27,7 +27,7 @@ freshRefusal hardware = 2 if not (isOwnHardware hardware) else none
 
 -- 12: "count is 10, and a request was accepted less than 60,000 ms ago".
 abbrev pub isTooSoon : Interface → Time → Bool
-isTooSoon s time = eqb (s .conflicts) (rfc5227 .maxConflicts) && isWithin (rfc5227 .rateLimitInterval) time (s .request)
+isTooSoon s time = eqb (s .conflicts) (rfc5227 .maxConflicts) && isWithin (rfc5227 .rateLimitInterval) time (s .asked)
 
 unfoldable pub askRefusal : Interface → Time → Ipv4Address → ℕ → Option ℕ
 askRefusal s time address policy =

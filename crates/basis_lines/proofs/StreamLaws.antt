@@ -17,7 +17,7 @@ use Rattle.basis_lines.specs.Numbers.{lastDigits}
 use Rattle.basis_lines.specs.Answers.{refusedText, Answered, malformed, lineAnswer, longestAnswer}
 use Rattle.basis_lines.specs.Records.{recordsAfter, answers, replay}
 use Rattle.basis_lines.specs.Forms.{longestLine}
-use Rattle.basis_lines.specs.Stream.{Work, endedAnswer, atLineStart, afterLine, roomAfter, isFull, wait, stop, afterwards, workAfter, work, finish, Move, arrives, works, Going, after, arrived, moved, begin, isWaiting, outputAtEnd, kept, keptLength, Theorem}
+use Rattle.basis_lines.specs.Stream.{Work, endedAnswer, atLineStart, afterLine, roomAfter, isFull, wait, stop, afterwards, workAfter, work, finish, Action, arrives, works, Going, after, arrived, acted, begin, isWaiting, outputAtEnd, kept, keptLength, Theorem}
 use Rattle.basis_lines.proofs.RecordLaws.{by-line, by-end, too-long-refused}
 
 -- What comes before work in two steps comes before it in one.
@@ -168,7 +168,7 @@ record Fair (st : Stream) (begun input : List ℕ) (room : ℕ) (w : Work) (left
   goes : (more : List ℕ) → toCome st begun (input ++ more) ≡ w .text ++ toCome (w .stream) [] (left ++ more)
   ends : w .waiting ≡ true → toCome (w .stream) [] left ≡ finish (w .stream) left
   small : w .waiting ≡ true → length left ≤ longestLine
-  moves : longestAnswer ≤ room → w .waiting ≡ false → 1 ≤ w .used
+  actions : longestAnswer ≤ room → w .waiting ≡ false → 1 ≤ w .used
   within : w .used ≤ length begun + length input
   fits : LongestAnswer → length (w .text) ≤ room
 
@@ -184,7 +184,7 @@ module _ (st : Stream) (begun : List ℕ) (room : ℕ) (told : Begun st begun) w
         goes = λ more. too-long (st .state) (st .skipping) begun [] more e;
         ends = λ h. refl;
         small = λ h. omega arith;
-        moves = λ h k. absurd (true≢false k);
+        actions = λ h k. absurd (true≢false k);
         within = omega arith;
         fits = λ longest. omega arith;
       })
@@ -194,7 +194,7 @@ module _ (st : Stream) (begun : List ℕ) (room : ℕ) (told : Begun st begun) w
         goes = λ more. sym (told more);
         ends = λ h. rw append-nil at (told []);
         small = λ h. ltb-false longestLine (length begun) (neither (st .skipping) (ltb longestLine (length begun)) e);
-        moves = λ h k. absurd (true≢false k);
+        actions = λ h k. absurd (true≢false k);
         within = omega arith;
         fits = λ longest. omega arith;
       })
@@ -207,7 +207,7 @@ module _ (st : Stream) (begun : List ℕ) (b : ℕ) (input : List ℕ) (room : �
         goes = λ more. sym (told (b ∷ input ++ more)) ∙ ap (toCome st []) (sym (append-assoc begun (b ∷ input) more));
         ends = λ h. absurd (false≢true h);
         small = λ h. absurd (false≢true h);
-        moves = λ h k. absurd (omega (arith, ltb-true room _ full));
+        actions = λ h k. absurd (omega (arith, ltb-true room _ full));
         within = omega arith;
         fits = λ longest. omega arith;
       }
@@ -220,7 +220,7 @@ module _ (st : Stream) (begun : List ℕ) (b : ℕ) (input : List ℕ) (room : �
         goes = λ more. toCome-more st begun b (input ++ more) e ∙ later .goes more;
         ends = later .ends;
         small = later .small;
-        moves = later .moves;
+        actions = later .actions;
         within = omega (arith, length-append begun (b ∷ []), later .within);
         fits = later .fits;
       })
@@ -238,7 +238,7 @@ module _ (st : Stream) (begun : List ℕ) (b : ℕ) (input : List ℕ) (room : �
             ∙ sym (append-assoc (endedAnswer st begun .text) (w .text) (toCome (w .stream) [] (drop (w .used) input ++ more)));
         ends = next .ends;
         small = next .small;
-        moves = λ h k. omega arith;
+        actions = λ h k. omega arith;
         within = omega (arith, next .within);
         fits =
             λ longest.
@@ -299,22 +299,22 @@ work-fits longest st input room = work-fair st input room .fits longest
 abbrev in-all : Going → List ℕ → List ℕ
 in-all g more = g .output ++ toCome (g .stream) [] (g .unread ++ more)
 
-worked-whole : (g : Going) (room : ℕ) (more : List ℕ) → in-all g more ≡ in-all (moved g (works room)) more
+worked-whole : (g : Going) (room : ℕ) (more : List ℕ) → in-all g more ≡ in-all (acted g (works room)) more
 worked-whole g room more =
     let w = work (g .stream) (g .unread) room in
     ap (λ (text : List ℕ). g .output ++ text) (work-fair (g .stream) (g .unread) room .goes more)
     ∙ sym (append-assoc (g .output) (w .text) (toCome (w .stream) [] (drop (w .used) (g .unread) ++ more)))
 
-moves-whole : (g : Going) (moves : List Move) → in-all g (arrived moves) ≡ in-all (after g moves) []
+actions-whole : (g : Going) (actions : List Action) → in-all g (arrived actions) ≡ in-all (after g actions) []
 unfolding after arrived
-moves-whole g [] = refl
-moves-whole g (arrives chunk ∷ moves) =
-    ap (λ (input : List ℕ). g .output ++ toCome (g .stream) [] input) (sym (append-assoc (g .unread) chunk (arrived moves)))
-    ∙ moves-whole (moved g (arrives chunk)) moves
-moves-whole g (works room ∷ moves) = worked-whole g room (arrived moves) ∙ moves-whole (moved g (works room)) moves
+actions-whole g [] = refl
+actions-whole g (arrives chunk ∷ actions) =
+    ap (λ (input : List ℕ). g .output ++ toCome (g .stream) [] input) (sym (append-assoc (g .unread) chunk (arrived actions)))
+    ∙ actions-whole (acted g (arrives chunk)) actions
+actions-whole g (works room ∷ actions) = worked-whole g room (arrived actions) ∙ actions-whole (acted g (works room)) actions
 
 -- Once a work waits, what is still to come is what the end adds.
-waiting-end : (g : Going) (room : ℕ) → isWaiting g room ≡ true → outputAtEnd (moved g (works room)) ≡ in-all g []
+waiting-end : (g : Going) (room : ℕ) → isWaiting g room ≡ true → outputAtEnd (acted g (works room)) ≡ in-all g []
 waiting-end g room h =
     let w = work (g .stream) (g .unread) room in
     let left = drop (w .used) (g .unread) in
@@ -327,13 +327,13 @@ unfolding replay
 streams =
     record {
       whole =
-          λ moves room h.
-          waiting-end (after begin moves) room h ∙ sym (moves-whole begin moves) ∙ toCome-records zeros [] (arrived moves);
+          λ actions room h.
+          waiting-end (after begin actions) room h ∙ sym (actions-whole begin actions) ∙ toCome-records zeros [] (arrived actions);
       memory = λ st input room. work-fair st input room .small;
-      progress = λ st input room. work-fair st input room .moves;
+      progress = λ st input room. work-fair st input room .actions;
     }
 
--- With room for an answer, works bring every replay to where it waits: so `whole` speaks of every list of moves.
+-- With room for an answer, works bring every replay to where it waits: so `whole` speaks of every list of actions.
 CatchesUp : Going → ℕ → Type 0
 CatchesUp g room = (n : ℕ) × (isWaiting (after g (replicate n (works room))) room ≡ true)
 
@@ -341,14 +341,14 @@ catches-up-in : (most : ℕ) (g : Going) (room : ℕ) → longestAnswer ≤ room
 unfolding CatchesUp after
 catches-up-in zero g room enough few = absurd (omega arith)
 catches-up-in (suc most) g room enough few =
-    cases (isWaiting g room) refl (catches-up-in most (moved g (works room)) room enough)
+    cases (isWaiting g room) refl (catches-up-in most (acted g (works room)) room enough)
   where
     cases : (t : Bool) → isWaiting g room ≡ t →
-        (length (moved g (works room) .unread) < most → CatchesUp (moved g (works room)) room) → CatchesUp g room
+        (length (acted g (works room) .unread) < most → CatchesUp (acted g (works room)) room) → CatchesUp g room
     cases true e later = (0, e)
     cases false e later =
         let w = work-fair (g .stream) (g .unread) room in
-        let n = later (rw length-drop (omega (arith, w .moves enough e, w .within))) in
+        let n = later (rw length-drop (omega (arith, w .actions enough e, w .within))) in
         (suc (n .0), n .1)
 
 pub catches-up : (g : Going) (room : ℕ) → longestAnswer ≤ room →

@@ -82,7 +82,7 @@ work st input room = workAfter st [] input room
 abbrev pub finish : Stream → List ℕ → List ℕ
 finish st left = cond (st .skipping || not (isEmpty left)) (malformed (st .state) .text) []
 
--- The bytes from one place up to another moved to the start of a buffer, the rest untouched; all of it where they are no places
+-- The bytes from one place up to another acted to the start of a buffer, the rest untouched; all of it where they are no places
 -- of the buffer. And how many they are.
 abbrev pub isPart : ℕ → ℕ → List ℕ → Bool
 isPart from to buffer = leb from to && leb to (length buffer)
@@ -94,9 +94,9 @@ abbrev pub keptLength : ℕ → ℕ → List ℕ → ℕ
 keptLength from to buffer = cond (isPart from to buffer) (to - from) 0
 
 -- A replay as it goes: input arrives, or there is work with an out buffer of some length. What is used up is gone.
-pub data Move : Type 0 where
-  arrives : List ℕ → Move
-  works : ℕ → Move
+pub data Action : Type 0 where
+  arrives : List ℕ → Action
+  works : ℕ → Action
 
 pub record Going : Type 0 where
   pub stream : Stream
@@ -106,22 +106,22 @@ pub record Going : Type 0 where
 abbrev pub worked : Going → Work → Going
 worked g w = record { stream = w .stream; unread = drop (w .used) (g .unread); output = g .output ++ w .text }
 
-abbrev pub moved : Going → Move → Going
-moved g (arrives chunk) = record { stream = g .stream; unread = g .unread ++ chunk; output = g .output }
-moved g (works room) = worked g (work (g .stream) (g .unread) room)
+abbrev pub acted : Going → Action → Going
+acted g (arrives chunk) = record { stream = g .stream; unread = g .unread ++ chunk; output = g .output }
+acted g (works room) = worked g (work (g .stream) (g .unread) room)
 
-unfoldable pub after : Going → List Move → Going
+unfoldable pub after : Going → List Action → Going
 after g [] = g
-after g (move ∷ moves) = after (moved g move) moves
+after g (action ∷ actions) = after (acted g action) actions
 
 abbrev pub begin : Going
 begin = record { stream = atLineStart zeros; unread = []; output = [] }
 
 -- All that arrived.
-unfoldable pub arrived : List Move → List ℕ
+unfoldable pub arrived : List Action → List ℕ
 arrived [] = []
-arrived (arrives chunk ∷ moves) = chunk ++ arrived moves
-arrived (works room ∷ moves) = arrived moves
+arrived (arrives chunk ∷ actions) = chunk ++ arrived actions
+arrived (works room ∷ actions) = arrived actions
 
 -- Whether the next work would leave nothing to do but to wait; and the output if the input ends here.
 abbrev pub isWaiting : Going → ℕ → Bool
@@ -134,9 +134,9 @@ outputAtEnd g = g .output ++ finish (g .stream) (g .unread)
 -- the end adds are those of the whole input. No more than 4,096 bytes are kept for the next call. With room for an answer a
 -- work that does not wait uses something up.
 pub record Theorem : Type 0 where
-  pub whole : (moves : List Move) (room : ℕ)
-      → isWaiting (after begin moves) room ≡ true
-      → outputAtEnd (moved (after begin moves) (works room)) ≡ replay (arrived moves)
+  pub whole : (actions : List Action) (room : ℕ)
+      → isWaiting (after begin actions) room ≡ true
+      → outputAtEnd (acted (after begin actions) (works room)) ≡ replay (arrived actions)
   pub memory : (st : Stream) (input : List ℕ) (room : ℕ)
       → work st input room .waiting ≡ true
       → length (drop (work st input room .used) input) ≤ longestLine

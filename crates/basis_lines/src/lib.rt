@@ -9,7 +9,7 @@ pub const LONGEST_LINE: usize = 4_096;
 pub const LONGEST_ANSWER: usize = 111;
 
 // What a line comes to: the state afterwards, and how many bytes of the answer were written.
-pub struct Replied {
+pub struct AnsweredLine {
     pub state: Interface,
     pub written: usize,
 }

@@ -39,7 +39,7 @@ pub claim-made : (time : Time) (address : Ipv4Address) (policy draw ms : ℕ) �
 claim-made time address policy draw ms e = rw e
 
 module _ (s : Interface) (time : Time) where
-  pub soon-limited : s .conflicts ≡ 10 → (within : Bool) → within ≡ isWithin 60_000 time (s .request) → within ≡ isTooSoon s time
+  pub soon-limited : s .conflicts ≡ 10 → (within : Bool) → within ≡ isWithin 60_000 time (s .asked) → within ≡ isTooSoon s time
   soon-limited e within w = rw (eq-eqb (s .conflicts) 10 e) w
 
   pub soon-unlimited : s .conflicts ≢ 10 → false ≡ isTooSoon s time
@@ -98,7 +98,7 @@ module _ (s : Interface) (time : Time) (address : Ipv4Address) (policy : ℕ) wh
           Decided s (askRefusal s time address policy) (askOutcome s time address policy draw)
           (record {
             verdict = Accepted Taken;
-            change = record { latest = time; request = At time; conflicts = s .conflicts; slot = slot; held = claim };
+            change = record { latest = time; asked = At time; conflicts = s .conflicts; slot = slot; held = claim };
             frame = Nothing;
           })
       unfolding askOutcome

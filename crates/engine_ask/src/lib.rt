@@ -27,13 +27,13 @@ ghost use Rattle.basis_engine.specs.Calls as Call;
 ghost use Rattle.engine_admission.specs.Rows.{checkOf};
 ghost use Rattle.engine_decisions.specs.Decisions.{Decided};
 
-// Whether there were ten conflicts and less than 60,000 ms ago a request.
+// Whether there were ten conflicts and less than 60,000 ms ago an ask.
 fn is_too_soon(state: Interface, time: Time) -> bool
     ensures { λ r. ⌜ r ≡ isTooSoon state time ⌝ }
 {
-    let request = state.request;
+    let asked = state.asked;
     if state.conflicts == MAX_CONFLICTS {
-        engine_timing::is_within(RATE_LIMIT_INTERVAL, time, request)
+        engine_timing::is_within(RATE_LIMIT_INTERVAL, time, asked)
     } else {
         false
     }
@@ -71,7 +71,7 @@ fn ask_check(
     let check = engine_admission::row(check, Refusal::PolicyUnknown, !known);
     let check = engine_admission::row(check, Refusal::AddressHeld, held);
     let check = engine_admission::row(check, Refusal::NoSlotFree, full);
-    engine_admission::row(check, Refusal::TooManyRequests, soon)
+    engine_admission::row(check, Refusal::AskedTooSoon, soon)
 }
 
 // The record of a new claim, with no probe sent.
@@ -110,7 +110,7 @@ pub fn ask(
                 verdict: Verdict::Accepted(Kind::Taken),
                 change: Change {
                     latest: time,
-                    request: Moment::At(time),
+                    asked: Moment::At(time),
                     conflicts: state.conflicts,
                     slot,
                     held: claim,

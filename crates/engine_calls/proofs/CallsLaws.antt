@@ -14,14 +14,14 @@ use Rattle.basis.specs.declared.Time.{Time}
 use Rattle.basis.specs.declared.Stage.{Stage}
 use Rattle.basis.specs.declared.Stage.the-variants.{Free, Probing, Announced, Settled}
 use Rattle.basis.specs.declared.Record.{Record}
-use Rattle.basis.specs.declared.Response.{Response}
-use Rattle.basis.specs.declared.Response.the-variants.{Lose, Defend, Keep}
+use Rattle.basis.specs.declared.Resolution.{Resolution}
+use Rattle.basis.specs.declared.Resolution.the-variants.{Lose, Defend, Keep}
 use Rattle.basis.specs.declared.Interface.{Interface}
 use Rattle.basis.specs.declared.Called.{Called}
 use Rattle.basis_engine.specs.Slots.{recordAt, lowest}
 use Rattle.basis_engine.specs.Interface.{isSound}
 use Rattle.basis_engine.specs.Deadlines.{dueSlot}
-use Rattle.basis_engine.specs.Conflicts.{isConflict, response, defence}
+use Rattle.basis_engine.specs.Conflicts.{isConflict, resolution, defence}
 use Rattle.basis_engine.specs.Refusals.{stateAndTime, askRefusal, tickRefusal, packetRefusal, dropRefusal}
 use Rattle.basis_engine.specs.Calls as Calls
 use Rattle.basis_engine.specs.Calls.{serviceAt, service, serve, meet, askOutcome, tickOutcome, packetOutcome, dropOutcome}
@@ -37,7 +37,7 @@ use Rattle.engine_calls.specs.declared.Call.{Call}
 use Rattle.engine_calls.specs.declared.Call.the-variants as Call
 use Rattle.engine_calls.specs.Performed.{callWith, Performed}
 
--- What goes out is written, since a sound state's requests can be: of a service, and of a response.
+-- What goes out is written, since a sound state's requests can be: of a service, and of a resolution.
 module _ (s : Interface) (sound : isSound s ≡ true) (out : List ℕ) (room : 28 ≤ length out) where
   stage-sent : (time : Time) (draw : ℕ) (address : Ipv4Address) (stage : Stage) →
       sentOut (serviceAt (s .hardware) address time draw stage .frame) out
@@ -59,16 +59,16 @@ module _ (s : Interface) (sound : isSound s ≡ true) (out : List ℕ) (room : 2
   serve-sent time draw none = refl
   serve-sent time draw (some n) = stage-sent time draw (recordAt (s .records) n .address) (recordAt (s .records) n .stage)
 
-  response-sent : (held : Record) (chosen : Response) →
+  resolution-sent : (held : Record) (chosen : Resolution) →
       sentOut (defence (s .hardware) held chosen) out ≡ handedOut (defence (s .hardware) held chosen) out
-  response-sent held Lose = refl
-  response-sent held Defend = announcement-put s sound (held .address) out room
-  response-sent held Keep = refl
+  resolution-sent held Lose = refl
+  resolution-sent held Defend = announcement-put s sound (held .address) out room
+  resolution-sent held Keep = refl
 
   meet-sent : (time : Time) (bytes : List ℕ) (slot : Option ℕ) →
       sentOut (meet s time (frameOf bytes) slot .frame) out ≡ handedOut (meet s time (frameOf bytes) slot .frame) out
   meet-sent time bytes none = refl
-  meet-sent time bytes (some n) = response-sent (recordAt (s .records) n) (response time (recordAt (s .records) n))
+  meet-sent time bytes (some n) = resolution-sent (recordAt (s .records) n) (resolution time (recordAt (s .records) n))
 
 -- So it is of every call that is accepted.
 call-sent : (s : Interface) (time : Time) (call : Call) (bytes out : List ℕ) → refusalOf s (callWith time call bytes out) ≡ none →

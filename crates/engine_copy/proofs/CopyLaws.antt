@@ -46,14 +46,14 @@ pub slots-copied : (from : List Record) → length from ≡ 4 → (none first se
     first ∷ second ∷ third ∷ fourth ∷ [] ≡ from
 slots-copied from four none first second third fourth e f g h = rw (e, f, g, h) (four-records from four none)
 
-pub interface-copied : (from : Interface) (request : Moment) → request ≡ from .request →
+pub interface-copied : (from : Interface) (asked : Moment) → asked ≡ from .asked →
     (records : List Record) → records ≡ from .records →
     record {
       hardware = from .hardware;
       latest = from .latest;
-      request = request;
+      asked = asked;
       conflicts = from .conflicts;
       records = records;
     }
     ≡ from
-interface-copied from request e records f = rw (e, f)
+interface-copied from asked e records f = rw (e, f)

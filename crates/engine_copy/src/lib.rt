@@ -60,14 +60,14 @@ pub fn interface(from: Interface) -> Interface
 {
     let hardware = from.hardware;
     let latest = from.latest;
-    let asked = from.request;
+    let last = from.asked;
     let held = from.records;
-    let request = moment(asked);
+    let asked = moment(last);
     let records = slots(held);
     Interface {
         hardware,
         latest,
-        request,
+        asked,
         conflicts: from.conflicts,
         records,
     }

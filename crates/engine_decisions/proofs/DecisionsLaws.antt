@@ -24,14 +24,14 @@ use Rattle.engine_copy.proofs.CopyLaws.{four-records}
 use Rattle.basis_engine.specs.Slots.{freeRecord, recordAt, putAt}
 use Rattle.basis_engine.specs.Deadlines.{smallestDeadline}
 use Rattle.engine_decisions.specs.declared.Outgoing.{Outgoing}
-use Rattle.engine_decisions.specs.declared.Outgoing.the-variants.{Request}
+use Rattle.engine_decisions.specs.declared.Outgoing.the-variants.{Send}
 use Rattle.engine_decisions.specs.declared.Verdict.{Verdict}
 use Rattle.engine_decisions.specs.declared.Verdict.the-variants as Verdict
 use Rattle.engine_decisions.specs.declared.Change.{Change}
 use Rattle.engine_decisions.specs.declared.Decision.{Decision}
 use Rattle.engine_decisions.specs.Decisions.{frameIn, sentOut, changedBy, answerWith, CarriedOut}
 
-pub out-written : (frame : Outgoing) (f : Frame) → frame ≡ Request f → (out after : List ℕ) → after ≡ writeOut f out →
+pub out-written : (frame : Outgoing) (f : Frame) → frame ≡ Send f → (out after : List ℕ) → after ≡ writeOut f out →
     after ≡ sentOut (frameIn frame) out
 out-written frame f e out after w = rw e w
 
@@ -110,7 +110,7 @@ pub change-made : (s : Interface) (change : Change) (records : List Record) →
     record {
       hardware = s .hardware;
       latest = change .latest;
-      request = change .request;
+      asked = change .asked;
       conflicts = change .conflicts;
       records = records;
     }

@@ -13,7 +13,7 @@ use Rattle.basis_engine.specs.Slots.{putAt}
 use Rattle.basis_engine.specs.Deadlines.{smallestDeadline}
 use Rattle.basis_engine.specs.Calls.{Outcome}
 use Rattle.engine_decisions.specs.declared.Outgoing.{Outgoing}
-use Rattle.engine_decisions.specs.declared.Outgoing.the-variants.{Nothing, Request}
+use Rattle.engine_decisions.specs.declared.Outgoing.the-variants.{Nothing, Send}
 use Rattle.engine_decisions.specs.declared.Verdict.{Verdict}
 use Rattle.engine_decisions.specs.declared.Verdict.the-variants as Verdict
 use Rattle.engine_decisions.specs.declared.Change.{Change}
@@ -22,7 +22,7 @@ use Rattle.engine_decisions.specs.declared.Decision.{Decision}
 -- The frame that goes out, if there is one, and the out buffer after its write.
 abbrev pub frameIn : Outgoing → Option Frame
 frameIn Nothing = none
-frameIn (Request frame) = some frame
+frameIn (Send frame) = some frame
 
 abbrev pub sentOut : Option Frame → List ℕ → List ℕ
 sentOut none out = out
@@ -34,7 +34,7 @@ changedBy s change =
     record {
       hardware = s .hardware;
       latest = change .latest;
-      request = change .request;
+      asked = change .asked;
       conflicts = change .conflicts;
       records = putAt (s .records) (slotOf (change .slot)) (change .held);
     }

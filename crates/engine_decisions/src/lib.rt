@@ -23,7 +23,7 @@ ghost use Rattle.engine_decisions.specs.Decisions.{frameIn, sentOut, cha
 // A frame that goes out, or none.
 pub enum Outgoing {
     Nothing,
-    Request(Frame),
+    Send(Frame),
 }
 
 // Whether a call is refused, or the kind of what it does.
@@ -32,10 +32,10 @@ pub enum Verdict {
     Accepted(Kind),
 }
 
-// What becomes of a state: its latest time, its request, its count, and the record in the slot concerned, if there is one.
+// What becomes of a state: its latest time, the time of its latest ask, its count, and the record in the slot concerned, if there is one.
 pub struct Change {
     pub latest: Time,
-    pub request: Moment,
+    pub asked: Moment,
     pub conflicts: u8,
     pub slot: SlotNumber,
     pub held: Record,
@@ -99,13 +99,13 @@ pub fn refused(refusal: Refusal, state: Interface) -> Decision
     ensures { λ r. ⌜ Declines state (refusalNumber refusal) r ⌝ }
 {
     let latest = state.latest;
-    let request = state.request;
+    let asked = state.asked;
     let held = free_record();
     Decision {
         verdict: Verdict::Refused(refusal),
         change: Change {
             latest,
-            request,
+            asked,
             conflicts: state.conflicts,
             slot: SlotNumber::Absent,
             held,
@@ -118,13 +118,13 @@ pub fn refused(refusal: Refusal, state: Interface) -> Decision
 pub fn nothing(state: Interface, time: Time) -> Decision
     ensures { λ r. ⌜ Decides state (Calls.nothing state time) r ⌝ }
 {
-    let request = state.request;
+    let asked = state.asked;
     let held = free_record();
     Decision {
         verdict: Verdict::Accepted(Kind::Nothing),
         change: Change {
             latest: time,
-            request,
+            asked,
             conflicts: state.conflicts,
             slot: SlotNumber::Absent,
             held,
@@ -140,14 +140,14 @@ fn changed(state: Interface, change: Change) -> Interface
     let hardware = state.hardware;
     let before = state.records;
     let latest = change.latest;
-    let request = change.request;
+    let asked = change.asked;
     let slot = change.slot;
     let held = change.held;
     let records = put_at(before, slot, held);
     Interface {
         hardware,
         latest,
-        request,
+        asked,
         conflicts: change.conflicts,
         records,
     }
@@ -172,8 +172,8 @@ fn hand_out(frame: Outgoing, out: &mut [u8])
 {
     match frame {
         Outgoing::Nothing => {}
-        Outgoing::Request(request) => {
-            engine_frames::hand_out(request, out);
+        Outgoing::Send(frame) => {
+            engine_frames::hand_out(frame, out);
         }
     }
 }

@@ -43,15 +43,15 @@ fn delay(probes: u8, draw: u32) -> u64
 fn probe(own: HardwareAddress, address: Ipv4Address) -> Outgoing
     ensures { λ r. ⌜ frameIn r ≡ some (Frame.probe own address) ⌝ }
 {
-    let request = engine_frames::probe(own, address);
-    Outgoing::Request(request)
+    let frame = engine_frames::probe(own, address);
+    Outgoing::Send(frame)
 }
 
 fn announcement(own: HardwareAddress, address: Ipv4Address) -> Outgoing
     ensures { λ r. ⌜ frameIn r ≡ some (Frame.announcement own address) ⌝ }
 {
-    let request = engine_frames::announcement(own, address);
-    Outgoing::Request(request)
+    let frame = engine_frames::announcement(own, address);
+    Outgoing::Send(frame)
 }
 
 // A record served. Each deadline is counted from the time of the call, so a late tick shortens no gap.

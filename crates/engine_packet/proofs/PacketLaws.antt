@@ -15,17 +15,17 @@ use Rattle.basis.specs.declared.Record.{Record}
 use Rattle.basis.specs.declared.Interface.{Interface}
 use Rattle.basis.specs.declared.Refusal.{Refusal}
 use Rattle.basis.specs.declared.Kind.{Kind}
-use Rattle.basis.specs.declared.Response.{Response}
-use Rattle.basis.specs.declared.Response.the-variants.{Lose, Defend, Keep}
+use Rattle.basis.specs.declared.Resolution.{Resolution}
+use Rattle.basis.specs.declared.Resolution.the-variants.{Lose, Defend, Keep}
 use Rattle.basis.specs.declared.SlotNumber.{SlotNumber}
 use Rattle.basis.specs.declared.SlotNumber.the-variants.{Absent, Slot}
 use Rattle.basis.specs.declared.ReadAnswer.{ReadAnswer}
 use Rattle.basis.specs.declared.ReadAnswer.the-variants as ReadAnswer
 use Rattle.basis.proofs.AnswersLaws.{accepted-none, accepted-same, refused-some}
 use Rattle.basis_engine.specs.Slots.{recordAt, lowest}
-use Rattle.basis_engine.specs.Conflicts.{isConflict, countUp, response, recordAfter, defence, responseKind}
+use Rattle.basis_engine.specs.Conflicts.{isConflict, countUp, resolution, recordAfter, defence, resolutionKind}
 use Rattle.basis_engine.specs.Refusals.{stateAndTime, tickRefusal, packetRefusal}
-use Rattle.basis_engine.specs.Calls.{nothing, respond, meet, packetOutcome}
+use Rattle.basis_engine.specs.Calls.{nothing, resolve, meet, packetOutcome}
 use Rattle.basis_engine.proofs.Acceptance.{tick-accepted, sound}
 use Rattle.engine_admission.specs.declared.Check.{Check}
 use Rattle.engine_admission.specs.declared.Check.the-variants as Check
@@ -46,8 +46,8 @@ module _ (count : ℕ) where
 -- Each way that `count_up` ends.
 pub ruleset count-ends = (count-full, count-adds)
 
--- A defence sends the announcement `f`, another response nothing.
-module _ (own : HardwareAddress) (held : Record) (chosen : Response) where
+-- A defence sends the announcement `f`, another resolution nothing.
+module _ (own : HardwareAddress) (held : Record) (chosen : Resolution) where
   pub lose-sends : chosen ≡ Lose → none ≡ defence own held chosen
   lose-sends e = rw e
 
@@ -60,18 +60,18 @@ module _ (own : HardwareAddress) (held : Record) (chosen : Response) where
 -- Each way that `defence` ends.
 pub ruleset defence-ends = (lose-sends, defend-sends, keep-sends)
 
--- `kind`, `count`, `new` and `frame` are what `response_kind`, `count_up`, `record_after` and `defence` made.
-pub is-response : (s : Interface) (time : Time) (slot : ℕ) (held : Record) (chosen : Response) →
-    (kind : Kind) → kind ≡ responseKind chosen → (count : ℕ) → count ≡ countUp (s .conflicts) →
+-- `kind`, `count`, `new` and `frame` are what `resolution_kind`, `count_up`, `record_after` and `defence` made.
+pub is-resolution : (s : Interface) (time : Time) (slot : ℕ) (held : Record) (chosen : Resolution) →
+    (kind : Kind) → kind ≡ resolutionKind chosen → (count : ℕ) → count ≡ countUp (s .conflicts) →
     (new : Record) → new ≡ recordAfter chosen time held →
     (frame : Outgoing) → frameIn frame ≡ defence (s .hardware) held chosen →
-    Decides s (respond s time slot held chosen)
+    Decides s (resolve s time slot held chosen)
     (record {
       verdict = Accepted kind;
-      change = record { latest = time; request = s .request; conflicts = count; slot = Slot slot; held = new };
+      change = record { latest = time; asked = s .asked; conflicts = count; slot = Slot slot; held = new };
       frame = frame;
     })
-is-response s time slot held chosen kind k count c new n frame f =
+is-resolution s time slot held chosen kind k count c new n frame f =
     record { accepts = rw k; concerns = refl; changes = rw (c, n); sends = f }
 
 module _
@@ -82,7 +82,7 @@ module _
   none-met e says = rw (← told, e) says
 
   pub one-met : (slot : ℕ) → found ≡ Slot slot → (held : Record) → held ≡ recordAt (s .records) slot →
-      (chosen : Response) → chosen ≡ response time held → Decides s (respond s time slot held chosen) d →
+      (chosen : Resolution) → chosen ≡ resolution time held → Decides s (resolve s time slot held chosen) d →
       Decides s (meet s time f (lowest (isConflict (s .hardware) f) (s .records))) d
   one-met slot e held h chosen c says = rw (← told, e, ← h, ← c) says
 

@@ -7,7 +7,7 @@ use basis::MAX_CONFLICTS;
 use basis::ReadAnswer;
 use basis::Record;
 use basis::Refusal;
-use basis::Response;
+use basis::Resolution;
 use basis::SlotNumber;
 use basis::Time;
 use engine_decisions::Change;
@@ -38,34 +38,34 @@ fn count_up(count: u8) -> u8
     }
 }
 
-// The frame that a response sends.
-fn defence(own: HardwareAddress, held: Record, chosen: Response) -> Outgoing
+// The frame that a resolution sends.
+fn defence(own: HardwareAddress, held: Record, chosen: Resolution) -> Outgoing
     ensures { λ r. ⌜ frameIn r ≡ Conflicts.defence own held chosen ⌝ }
 {
     let address = held.address;
     let announcement = engine_frames::announcement(own, address);
     match chosen {
-        Response::Lose => Outgoing::Nothing,
-        Response::Defend => Outgoing::Request(announcement),
-        Response::Keep => Outgoing::Nothing,
+        Resolution::Lose => Outgoing::Nothing,
+        Resolution::Defend => Outgoing::Send(announcement),
+        Resolution::Keep => Outgoing::Nothing,
     }
 }
 
-// The response to a conflict with the record in a slot.
-fn respond(state: Interface, time: Time, slot: u64, held: Record, chosen: Response) -> Decision
+// The resolution to a conflict with the record in a slot.
+fn resolve(state: Interface, time: Time, slot: u64, held: Record, chosen: Resolution) -> Decision
     requires { ⌜ state .conflicts ≤ 10 ⌝ }
-    ensures { λ r. ⌜ Decides state (Call.respond state time slot held chosen) r ⌝ }
+    ensures { λ r. ⌜ Decides state (Call.resolve state time slot held chosen) r ⌝ }
 {
     let own = state.hardware;
-    let request = state.request;
-    let kind = engine_resolution::response_kind(chosen);
+    let asked = state.asked;
+    let kind = engine_resolution::resolution_kind(chosen);
     let after = engine_resolution::record_after(chosen, time, held);
     let frame = defence(own, held, chosen);
     Decision {
         verdict: Verdict::Accepted(kind),
         change: Change {
             latest: time,
-            request,
+            asked,
             conflicts: count_up(state.conflicts),
             slot: SlotNumber::Slot(slot),
             held: after,
@@ -86,8 +86,8 @@ fn meet(state: Interface, time: Time, frame: Frame) -> Decision
         SlotNumber::Absent => engine_decisions::nothing(state, time),
         SlotNumber::Slot(slot) => {
             let held = engine_decisions::record_at(records, slot);
-            let chosen = engine_resolution::response(held, time);
-            respond(state, time, slot, held, chosen)
+            let chosen = engine_resolution::resolution(held, time);
+            resolve(state, time, slot, held, chosen)
         }
     }
 }

@@ -39,7 +39,7 @@ pub new-state : (hardware : HardwareAddress) (free : Record) → free ≡ freeRe
     record {
       hardware = hardware;
       latest = record { 0 = 0 };
-      request = Never;
+      asked = Never;
       conflicts = 0;
       records = free ∷ free ∷ free ∷ free ∷ [];
     }
@@ -87,7 +87,7 @@ module _
       Decided s (dropRefusal s time slot) (dropOutcome s time slot)
       (record {
         verdict = Accepted Dropped;
-        change = record { latest = time; request = s .request; conflicts = s .conflicts; slot = Slot slot; held = free };
+        change = record { latest = time; asked = s .asked; conflicts = s .conflicts; slot = Slot slot; held = free };
         frame = Nothing;
       })
   unfolding dropOutcome

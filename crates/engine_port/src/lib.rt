@@ -28,7 +28,7 @@ ghost use Rattle.basis_engine.specs.Machine.{Promised};
 ghost use Rattle.engine_admission.specs.Rows.{checkOf};
 ghost use Rattle.engine_decisions.specs.Decisions.{Decided};
 
-// A new interface: time 0, count 0, no request, four free slots.
+// A new interface: time 0, count 0, no ask, four free slots.
 fn new_interface(hardware: HardwareAddress) -> Interface
     ensures { λ r. ⌜ r ≡ freshOutcome hardware .state ⌝ }
 {
@@ -36,7 +36,7 @@ fn new_interface(hardware: HardwareAddress) -> Interface
     Interface {
         hardware,
         latest: Time(0),
-        request: Moment::Never,
+        asked: Moment::Never,
         conflicts: 0,
         records: [free, free, free, free],
     }
@@ -78,7 +78,7 @@ pub fn drop(state: Interface, admitted: Check, time: Time, slot: u64) -> Decisio
     requires { ⌜ checkOf admitted ≡ stateAndTime state time none ⌝ }
     ensures { λ r. ⌜ Decided state (dropRefusal state time slot) (dropOutcome state time slot) r ⌝ }
 {
-    let request = state.request;
+    let asked = state.asked;
     let records = state.records;
     let vacant = is_vacant(records, slot);
     let check = engine_admission::row(admitted, Refusal::SlotNotHeld, vacant);
@@ -90,7 +90,7 @@ pub fn drop(state: Interface, admitted: Check, time: Time, slot: u64) -> Decisio
                 verdict: Verdict::Accepted(Kind::Dropped),
                 change: Change {
                     latest: time,
-                    request,
+                    asked,
                     conflicts: state.conflicts,
                     slot: SlotNumber::Slot(slot),
                     held: free,

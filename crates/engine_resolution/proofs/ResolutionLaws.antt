@@ -9,11 +9,11 @@ use Rattle.basis.specs.declared.Moment.the-variants.{At}
 use Rattle.basis.specs.declared.Stage.{Stage}
 use Rattle.basis.specs.declared.Stage.the-variants.{Free, Probing, Announced, Settled}
 use Rattle.basis.specs.declared.Record.{Record}
-use Rattle.basis.specs.declared.Response.{Response}
-use Rattle.basis.specs.declared.Response.the-variants.{Lose, Defend, Keep}
+use Rattle.basis.specs.declared.Resolution.{Resolution}
+use Rattle.basis.specs.declared.Resolution.the-variants.{Lose, Defend, Keep}
 use Rattle.basis_engine.specs.Timing.{isWithin}
 use Rattle.basis_engine.specs.Slots.{freeRecord}
-use Rattle.basis_engine.specs.Conflicts.{byPolicy, response, seenAt, recordAfter}
+use Rattle.basis_engine.specs.Conflicts.{byPolicy, resolution, seenAt, recordAfter}
 
 -- `recent` is what the test of the interval answered.
 module _ (policy : ℕ) (now : Time) (last : Moment) where
@@ -34,25 +34,25 @@ module _ (policy : ℕ) (now : Time) (last : Moment) where
 pub ruleset policy-ends = (policy-1, policy-defends, policy-2, policy-3)
 
 module _ (now : Time) (r : Record) where
-  pub response-free : r .stage ≡ Free → Keep ≡ response now r
-  unfolding response
-  response-free e = rw e
+  pub resolution-free : r .stage ≡ Free → Keep ≡ resolution now r
+  unfolding resolution
+  resolution-free e = rw e
 
-  pub response-probing : (sent : ℕ) (deadline : Time) → r .stage ≡ Probing sent deadline → Lose ≡ response now r
-  unfolding response
-  response-probing sent deadline e = rw e
+  pub resolution-probing : (sent : ℕ) (deadline : Time) → r .stage ≡ Probing sent deadline → Lose ≡ resolution now r
+  unfolding resolution
+  resolution-probing sent deadline e = rw e
 
-  module _ (chosen : Response) (last : Moment) (told : chosen ≡ byPolicy (r .policy) now last) where
-    pub response-announced : (deadline : Time) → r .stage ≡ Announced deadline last → chosen ≡ response now r
-    unfolding response
-    response-announced deadline e = rw e told
+  module _ (chosen : Resolution) (last : Moment) (told : chosen ≡ byPolicy (r .policy) now last) where
+    pub resolution-announced : (deadline : Time) → r .stage ≡ Announced deadline last → chosen ≡ resolution now r
+    unfolding resolution
+    resolution-announced deadline e = rw e told
 
-    pub response-settled : r .stage ≡ Settled last → chosen ≡ response now r
-    unfolding response
-    response-settled e = rw e told
+    pub resolution-settled : r .stage ≡ Settled last → chosen ≡ resolution now r
+    unfolding resolution
+    resolution-settled e = rw e told
 
--- Each way that `response` ends.
-pub ruleset response-ends = (response-free, response-probing, response-announced, response-settled)
+-- Each way that `resolution` ends.
+pub ruleset resolution-ends = (resolution-free, resolution-probing, resolution-announced, resolution-settled)
 
 module _ (now : Time) (stage : Stage) where
   pub seen-free : stage ≡ Free → Free ≡ seenAt now stage
@@ -76,10 +76,10 @@ module _ (now : Time) (r : Record) where
       record { address = r .address; policy = r .policy; stage = stage } ≡ recordAfter Keep now r
   is-seen stage e = rw e
 
-  pub after-lose : (chosen : Response) → chosen ≡ Lose → (free : Record) → free ≡ freeRecord → free ≡ recordAfter chosen now r
+  pub after-lose : (chosen : Resolution) → chosen ≡ Lose → (free : Record) → free ≡ freeRecord → free ≡ recordAfter chosen now r
   after-lose chosen e free f = rw e f
 
-  module _ (chosen : Response) (new : Record) (told : new ≡ recordAfter Keep now r) where
+  module _ (chosen : Resolution) (new : Record) (told : new ≡ recordAfter Keep now r) where
     pub after-defend : chosen ≡ Defend → new ≡ recordAfter chosen now r
     after-defend e = rw e told
 

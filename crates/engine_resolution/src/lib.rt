@@ -3,42 +3,42 @@ use basis::DEFEND_INTERVAL;
 use basis::Kind;
 use basis::Moment;
 use basis::Record;
-use basis::Response;
+use basis::Resolution;
 use basis::Stage;
 use basis::Time;
 ghost use mathlib.Core.Path.{_≡_};
-ghost use Rattle.basis.specs.declared.Response.the-variants.{Keep};
-ghost use Rattle.basis_engine.specs.Conflicts.{byPolicy, seenAt, recordAfter, responseKind};
+ghost use Rattle.basis.specs.declared.Resolution.the-variants.{Keep};
+ghost use Rattle.basis_engine.specs.Conflicts.{byPolicy, seenAt, recordAfter, resolutionKind};
 ghost use Rattle.basis_engine.specs.Conflicts as Conflicts;
 
 // What a conflict with a usable record calls for.
-fn by_policy(policy: u8, now: Time, last: Moment) -> Response
+fn by_policy(policy: u8, now: Time, last: Moment) -> Resolution
     ensures { λ r. ⌜ r ≡ byPolicy policy now last ⌝ }
 {
     let recent = engine_timing::is_within(DEFEND_INTERVAL, now, last);
     if policy == 1 {
-        Response::Lose
+        Resolution::Lose
     } else if !recent {
-        Response::Defend
+        Resolution::Defend
     } else if policy == 2 {
-        Response::Lose
+        Resolution::Lose
     } else {
-        Response::Keep
+        Resolution::Keep
     }
 }
 
 // What a conflict with a record calls for.
-pub fn response(held: Record, now: Time) -> Response
-    ensures { λ r. ⌜ r ≡ Conflicts.response now held ⌝ }
+pub fn resolution(held: Record, now: Time) -> Resolution
+    ensures { λ r. ⌜ r ≡ Conflicts.resolution now held ⌝ }
 {
     let policy = held.policy;
     let stage = held.stage;
     match stage {
-        Stage::Free => Response::Keep,
+        Stage::Free => Resolution::Keep,
         Stage::Probing {
             sent: _,
             deadline: _,
-        } => Response::Lose,
+        } => Resolution::Lose,
         Stage::Announced {
             deadline: _,
             conflict,
@@ -77,26 +77,26 @@ fn seen(now: Time, held: Record) -> Record
     }
 }
 
-// What a response leaves of a record.
-pub fn record_after(response: Response, now: Time, held: Record) -> Record
-    ensures { λ r. ⌜ r ≡ recordAfter response now held ⌝ }
+// What a resolution leaves of a record.
+pub fn record_after(resolution: Resolution, now: Time, held: Record) -> Record
+    ensures { λ r. ⌜ r ≡ recordAfter resolution now held ⌝ }
 {
     let free = engine_decisions::free_record();
     let marked = seen(now, held);
-    match response {
-        Response::Lose => free,
-        Response::Defend => marked,
-        Response::Keep => marked,
+    match resolution {
+        Resolution::Lose => free,
+        Resolution::Defend => marked,
+        Resolution::Keep => marked,
     }
 }
 
-// The kind that a response is reported as.
-pub fn response_kind(response: Response) -> Kind
-    ensures { λ r. ⌜ r ≡ responseKind response ⌝ }
+// The kind that a resolution is reported as.
+pub fn resolution_kind(resolution: Resolution) -> Kind
+    ensures { λ r. ⌜ r ≡ resolutionKind resolution ⌝ }
 {
-    match response {
-        Response::Lose => Kind::Lost,
-        Response::Defend => Kind::Defend,
-        Response::Keep => Kind::Kept,
+    match resolution {
+        Resolution::Lose => Kind::Lost,
+        Resolution::Defend => Kind::Defend,
+        Resolution::Keep => Kind::Kept,
     }
 }

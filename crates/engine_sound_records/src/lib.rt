@@ -25,7 +25,7 @@ pub fn is_policy(policy: u64) -> bool
     (1 <= policy) & (policy <= 3)
 }
 
-// Whether a request or conflict is no later than the latest time.
+// Whether an ask or a conflict is no later than the latest time.
 pub fn is_past(latest: Time, moment: Moment) -> bool
     ensures { λ r. ⌜ r ≡ isPast latest moment ⌝ }
 {

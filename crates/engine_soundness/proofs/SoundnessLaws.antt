@@ -16,7 +16,7 @@ alone-held r others free told e held h = rw (← told, e, h)
 
 pub all-sound : (s : Interface) →
     (own : Bool) → own ≡ isOwnHardware (s .hardware) →
-    (past : Bool) → past ≡ isPast (s .latest) (s .request) →
+    (past : Bool) → past ≡ isPast (s .latest) (s .asked) →
     (sound : Bool) → sound ≡ all (isSoundRecord (s .latest)) (s .records) →
     (once : Bool) → once ≡ holdsNoneTwice (s .records) →
     (own && leb (s .latest .0) lastTime && leb (s .conflicts) 10 && past && sound && once) ≡ isSound s

@@ -51,12 +51,12 @@ pub fn is_sound(state: Interface) -> bool
 {
     let hardware = state.hardware;
     let latest = state.latest;
-    let request = state.request;
+    let asked = state.asked;
     let records = state.records;
     is_own_hardware(hardware)
         & (latest.0 <= LAST_TIME)
         & (state.conflicts <= MAX_CONFLICTS)
-        & engine_sound_records::is_past(latest, request)
+        & engine_sound_records::is_past(latest, asked)
         & engine_sound_records::are_sound(latest, records)
         & holds_none_twice(records)
 }

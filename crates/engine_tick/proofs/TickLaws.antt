@@ -36,7 +36,7 @@ module _ (s : Interface) (time : Time) (draw : ℕ) where
         verdict = Accepted (v .kind);
         change = record {
           latest = time;
-          request = s .request;
+          asked = s .asked;
           conflicts = s .conflicts;
           slot = Slot slot;
           held = withStage claim (v .stage);

@@ -24,7 +24,7 @@ fn serve(state: Interface, time: Time, draw: u32, slot: u64) -> Decision
     ensures { λ r. ⌜ Decides state (Call.serve state time draw (some slot)) r ⌝ }
 {
     let own = state.hardware;
-    let request = state.request;
+    let asked = state.asked;
     let records = state.records;
     let claim = engine_decisions::record_at(records, slot);
     let service = engine_due::served(own, time, draw, claim);
@@ -36,7 +36,7 @@ fn serve(state: Interface, time: Time, draw: u32, slot: u64) -> Decision
         verdict: Verdict::Accepted(kind),
         change: Change {
             latest: time,
-            request,
+            asked,
             conflicts: state.conflicts,
             slot: SlotNumber::Slot(slot),
             held: Record {

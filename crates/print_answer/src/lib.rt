@@ -13,7 +13,7 @@ ghost use Rattle.basis_lines.specs.Numbers.{decimal};
 ghost use Rattle.basis_lines.specs.Answers.{dash, numberText, refusedText, longestAnswer, written};
 ghost use Rattle.print_digits.specs.Put.{Put};
 ghost use Rattle.print_answer.specs.AcceptedText.{shown, acceptedWith};
-ghost use Rattle.print_answer.specs.AcceptedText.{sends as Parts·sends};
+ghost use Rattle.print_answer.specs.AcceptedText.{sends as Spec·sends};
 
 // Puts a tab and a number at a place, and answers the place after it. So do the others named `put`.
 fn put_number(n: u64, out: &mut [u8], at: usize) -> usize
@@ -56,7 +56,7 @@ fn put_next(next: Moment, out: &mut [u8], at: usize) -> usize
 
 // Whether a kind hands out a frame.
 fn sends(kind: Kind) -> bool
-    ensures { λ r. ⌜ r ≡ Parts·sends kind ⌝ }
+    ensures { λ r. ⌜ r ≡ Spec·sends kind ⌝ }
 {
     match kind {
         Kind::Fresh => false,
@@ -127,7 +127,7 @@ fn number(refusal: Refusal) -> u64
         Refusal::PolicyUnknown => 9,
         Refusal::AddressHeld => 10,
         Refusal::NoSlotFree => 11,
-        Refusal::TooManyRequests => 12,
+        Refusal::AskedTooSoon => 12,
         Refusal::SlotNotHeld => 13,
         Refusal::LineMalformed => 14,
     }

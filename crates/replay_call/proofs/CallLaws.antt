@@ -20,8 +20,8 @@ use Rattle.basis.specs.declared.HardwareAddress.{HardwareAddress}
 use Rattle.basis.specs.declared.Record.{Record}
 use Rattle.basis.specs.declared.Stage.{Stage}
 use Rattle.basis.specs.declared.Stage.the-variants.{Free, Probing, Announced, Settled}
-use Rattle.basis.specs.declared.Response.{Response}
-use Rattle.basis.specs.declared.Response.the-variants.{Lose, Defend, Keep}
+use Rattle.basis.specs.declared.Resolution.{Resolution}
+use Rattle.basis.specs.declared.Resolution.the-variants.{Lose, Defend, Keep}
 use Rattle.basis.specs.declared.Interface.{Interface}
 use Rattle.basis.specs.declared.Called.{Called}
 use Rattle.basis.specs.declared.Answer.{Answer}
@@ -29,7 +29,7 @@ use Rattle.basis.specs.declared.Answer.the-variants as Answer
 use Rattle.basis_engine.specs.Timing.{rfc5227}
 use Rattle.basis_engine.specs.Slots.{recordAt, lowest}
 use Rattle.basis_engine.specs.Deadlines.{dueSlot}
-use Rattle.basis_engine.specs.Conflicts.{isConflict, response, responseKind, defence}
+use Rattle.basis_engine.specs.Conflicts.{isConflict, resolution, resolutionKind, defence}
 use Rattle.basis_engine.specs.Calls as Calls
 use Rattle.basis_engine.specs.Calls.{Call, Service, service, serviceAt, freshOutcome, askOutcome, tickOutcome, packetOutcome, dropOutcome, serve, meet}
 use Rattle.basis_engine.specs.Machine.{Promised, outcomeOf, resultOf, refusalOf, handedOut}
@@ -46,7 +46,7 @@ isSent : Option Frame → Bool
 isSent none = false
 isSent (some frame) = true
 
--- The kinds that hand out a frame are those that `sends` names: of a service, of a response, and so of any call.
+-- The kinds that hand out a frame are those that `sends` names: of a service, of a resolution, and so of any call.
 either : (t : Bool) (a b : Service)
     → sends (a .kind) ≡ isSent (a .frame)
     → sends (b .kind) ≡ isSent (b .frame)
@@ -66,12 +66,12 @@ service-sends own time draw r = by (r .stage)
     by (Announced deadline conflict) = refl
     by (Settled conflict) = refl
 
-response-sends : (own : HardwareAddress) (r : Record) (chosen : Response)
-    → sends (responseKind chosen) ≡ isSent (defence own r chosen)
+resolution-sends : (own : HardwareAddress) (r : Record) (chosen : Resolution)
+    → sends (resolutionKind chosen) ≡ isSent (defence own r chosen)
 unfolding isSent
-response-sends own r Lose = refl
-response-sends own r Defend = refl
-response-sends own r Keep = refl
+resolution-sends own r Lose = refl
+resolution-sends own r Defend = refl
+resolution-sends own r Keep = refl
 
 call-sends : (s : Interface) (call : Call) → sends (outcomeOf s call .kind) ≡ isSent (outcomeOf s call .frame)
 unfolding isSent outcomeOf freshOutcome askOutcome tickOutcome packetOutcome dropOutcome
@@ -86,7 +86,7 @@ call-sends s (Calls.packet time bytes out) = by (lowest (isConflict (s .hardware
   where
     by : (slot : Option ℕ) → sends (meet s time (frameOf bytes) slot .kind) ≡ isSent (meet s time (frameOf bytes) slot .frame)
     by none = refl
-    by (some n) = response-sends (s .hardware) (recordAt (s .records) n) (response time (recordAt (s .records) n))
+    by (some n) = resolution-sends (s .hardware) (recordAt (s .records) n) (resolution time (recordAt (s .records) n))
 call-sends s (Calls.drop time slot) = refl
 
 -- The last field of an accepted call: 28 lent bytes hold the frame if there is one.

@@ -1,6 +1,6 @@
 // A call made, and the text of its answer.
 use engine_calls::Call;
-use basis_lines::Replied;
+use basis_lines::AnsweredLine;
 use basis::Answer;
 use basis::HardwareAddress;
 use basis::Interface;
@@ -39,7 +39,7 @@ fn put_answer(answer: Answer, frame: &[u8; 28], out: &mut [u8]) -> usize
 }
 
 // A new interface, and its answer's text. Fresh is lent no buffer and hands out no frame, so what is shown of one does not matter.
-pub fn fresh(state: Interface, own: HardwareAddress, out: &mut [u8]) -> Replied
+pub fn fresh(state: Interface, own: HardwareAddress, out: &mut [u8]) -> AnsweredLine
     requires { ⌜ longestAnswer ≤ length (now out) ⌝ }
     ensures { λ r. ⌜ Gives (answerTo state (some (Calls.fresh own))) (r .state) (r .written) (now (out .entry)) (now (out .exit)) ⌝ }
 {
@@ -48,7 +48,7 @@ pub fn fresh(state: Interface, own: HardwareAddress, out: &mut [u8]) -> Replied
     let answer = called.answer;
     let new = called.state;
     let written = put_answer(answer, &frame, out);
-    Replied {
+    AnsweredLine {
         state: new,
         written,
     }
@@ -62,7 +62,7 @@ pub fn perform(
     call: Call,
     bytes: &[u8],
     out: &mut [u8],
-) -> Replied
+) -> AnsweredLine
     requires { ⌜ (sound ≡ isSound state) × (longestAnswer ≤ length (now out)) ⌝ }
     ensures { λ r. ⌜ Gives (answerTo state (some (callWith time call (now (bytes .entry)) lentBuffer))) (r .state) (r .written) (now (out .entry)) (now (out .exit)) ⌝ }
 {
@@ -71,7 +71,7 @@ pub fn perform(
     let answer = called.answer;
     let new = called.state;
     let written = put_answer(answer, &frame, out);
-    Replied {
+    AnsweredLine {
         state: new,
         written,
     }

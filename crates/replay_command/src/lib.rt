@@ -1,6 +1,6 @@
 // A line's command carried out, on a state of which it is known whether it is sound.
 use parse_forms::Command;
-use basis_lines::Replied;
+use basis_lines::AnsweredLine;
 use replay_plans::Plan;
 use basis::Interface;
 ghost use Prim.Native.Nat.{_≤_};
@@ -12,13 +12,13 @@ ghost use Rattle.parse_forms.specs.Commands.{commandCall};
 ghost use Rattle.replay_call.specs.AnswerText.{Gives};
 
 // What a command comes to. The bytes of a packet stand at the start of `head`.
-fn reply(
+fn carry_out(
     state: Interface,
     sound: bool,
     command: Command,
     head: &[u8; 28],
     out: &mut [u8],
-) -> Replied
+) -> AnsweredLine
     requires { ⌜ (sound ≡ isSound state) × (longestAnswer ≤ length (now out)) ⌝ }
     ensures { λ r. ⌜ Gives (answerTo state (commandCall command (now (head .entry)))) (r .state) (r .written) (now (out .entry)) (now (out .exit)) ⌝ }
 {
@@ -26,7 +26,7 @@ fn reply(
     match planned {
         Plan::Malformed => {
             let written = replay_call::malformed(out);
-            Replied { state, written }
+            AnsweredLine { state, written }
         }
         Plan::Fresh(own) => replay_call::fresh(state, own, out),
         Plan::Call { time, call, count } => {
@@ -37,11 +37,11 @@ fn reply(
 }
 
 // A line answered, on a state of which it is known whether it is sound.
-pub fn answer_line(state: Interface, sound: bool, line: &[u8], out: &mut [u8]) -> Replied
+pub fn answer_line(state: Interface, sound: bool, line: &[u8], out: &mut [u8]) -> AnsweredLine
     requires { ⌜ (sound ≡ isSound state) × (longestAnswer ≤ length (now out)) ⌝ }
     ensures { λ r. ⌜ Gives (lineAnswer state (now (line .entry))) (r .state) (r .written) (now (out .entry)) (now (out .exit)) ⌝ }
 {
     let mut head = [0u8; 28];
     let command = parse_command::parse(line, &mut head);
-    reply(state, sound, command, &head, out)
+    carry_out(state, sound, command, &head, out)
 }

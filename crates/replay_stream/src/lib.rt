@@ -39,7 +39,7 @@ pub fn begin() -> Stream
         state: Interface {
             hardware: HardwareAddress(0),
             latest: Time(0),
-            request: Moment::Never,
+            asked: Moment::Never,
             conflicts: 0,
             records: [free, free, free, free],
         },

@@ -1,5 +1,5 @@
 // What a turn of the stream's loop is made of: the next line, whether the state is sound, and the line's answer.
-use basis_lines::Replied;
+use basis_lines::AnsweredLine;
 use basis::Interface;
 ghost use Prim.Native.Nat.{_+_, _≤_};
 ghost use mathlib.Core.Path.{_≡_};
@@ -40,7 +40,7 @@ pub fn answer_at(
     line: &[u8],
     out: &mut [u8],
     done: usize,
-) -> Replied
+) -> AnsweredLine
     requires { ⌜ (sound ≡ isSound state) × (done + longestAnswer ≤ length (now out)) ⌝ }
     ensures { λ r. ⌜ r .state ≡ lineEnd state skipping (now (line .entry)) .state ⌝ }
     ensures { λ r. ⌜ r .written ≡ length (lineEnd state skipping (now (line .entry)) .text) ⌝ }
@@ -49,7 +49,7 @@ pub fn answer_at(
     let rest = &mut out[done..];
     if skipping {
         let written = replay_call::malformed(rest);
-        Replied { state, written }
+        AnsweredLine { state, written }
     } else {
         replay_command::answer_line(state, sound, line, rest)
     }

@@ -1,4 +1,4 @@
--- `engine_resolution::record_after`: by the response.
+-- `engine_resolution::record_after`: by the resolution.
 use borrow.Author.Needs.{needs}
 use Rattle.engine_resolution.proofs.ResolutionLaws.{after-ends}
 use Rattle.engine_resolution.proofs.record_after.Statement.{statement}

@@ -32,13 +32,13 @@ use Rattle.basis_engine.proofs.Links.{Link, link-elsewhere, link-taken}
 use Rattle.basis_engine.proofs.Invariant.{LastAsk, Linked, LinkedAfter, by-address, holds-own, holds-no-other, linked-away}
 
 -- The asks after the tenth conflict stay apart: with a count of 10 an ask that is too soon is refused.
-ask-after : (asks : List ℕ) (count : ℕ) (request : Moment) (time : Time) → LastAsk asks count request →
-    isWithin (rfc5227 .rateLimitInterval) time request ≡ false → IsAfter (rfc5227 .rateLimitInterval) asks (time .0)
-ask-after [] count request time last inTime = tt
+ask-after : (asks : List ℕ) (count : ℕ) (asked : Moment) (time : Time) → LastAsk asks count asked →
+    isWithin (rfc5227 .rateLimitInterval) time asked ≡ false → IsAfter (rfc5227 .rateLimitInterval) asks (time .0)
+ask-after [] count asked time last inTime = tt
 ask-after (t ∷ earlier) count Never time last inTime = absurd last
-ask-after (t ∷ earlier) count (At request) time last inTime =
+ask-after (t ∷ earlier) count (At asked) time last inTime =
     let same = last .1 in
-    let h = ltb-false (time .0) (request .0 + rfc5227 .rateLimitInterval) inTime in omega arith
+    let h = ltb-false (time .0) (asked .0 + rfc5227 .rateLimitInterval) inTime in omega arith
 
 limited : (count : ℕ) (conflicts : ℕ) (near : Bool) → conflicts ≡ min count (rfc5227 .maxConflicts) → rfc5227 .maxConflicts ≤ count →
     (eqb conflicts (rfc5227 .maxConflicts) && near) ≡ false → near ≡ false
@@ -76,24 +76,24 @@ module _ (own : HardwareAddress) (s : Interface) (claims : List Claim) (asks : L
       (rw free) (holds-no-other other new apart) (linked .links other)))
 
   -- With fewer than ten conflicts there was no ask after the tenth.
-  none-yet : (asks : List ℕ) (count : ℕ) (request : Moment) → LastAsk asks count request → count < rfc5227 .maxConflicts →
+  none-yet : (asks : List ℕ) (count : ℕ) (asked : Moment) → LastAsk asks count asked → count < rfc5227 .maxConflicts →
       LastAsk asks count (At time)
-  none-yet [] count request last few = tt
+  none-yet [] count asked last few = tt
   none-yet (t ∷ earlier) count Never last few = absurd last
-  none-yet (t ∷ earlier) count (At request) last few = let ten = last .0 in (omega arith, omega arith)
+  none-yet (t ∷ earlier) count (At asked) last few = let ten = last .0 in (omega arith, omega arith)
 
   ask-asks : (b : Bool) → leb (rfc5227 .maxConflicts) (conflictCount claims) ≡ b →
       Spaced (rfc5227 .rateLimitInterval) (cond b (time .0 ∷ asks) asks)
       × LastAsk (cond b (time .0 ∷ asks) asks) (conflictCount claims) (At time)
   ask-asks true e =
       let ten = leb-true (rfc5227 .maxConflicts) (conflictCount claims) e in
-      let near = limited (conflictCount claims) (s .conflicts) (isWithin (rfc5227 .rateLimitInterval) time (s .request)) (linked .count)
+      let near = limited (conflictCount claims) (s .conflicts) (isWithin (rfc5227 .rateLimitInterval) time (s .asked)) (linked .count)
       ten (accepted .inTime) in
-      let later = ask-after asks (conflictCount claims) (s .request) time (linked .lastAsk) near in
+      let later = ask-after asks (conflictCount claims) (s .asked) time (linked .lastAsk) near in
       (spaced-cons (rfc5227 .rateLimitInterval) (time .0) asks later (linked .asksApart), (ten, refl))
   ask-asks false e = (
     linked .asksApart,
-    none-yet asks (conflictCount claims) (s .request) (linked .lastAsk)
+    none-yet asks (conflictCount claims) (s .asked) (linked .lastAsk)
         (leb-false (rfc5227 .maxConflicts) (conflictCount claims) e),
   )
 
@@ -110,10 +110,10 @@ module _ (own : HardwareAddress) (s : Interface) (claims : List Claim) (asks : L
         lastAsk = rw (zero-add (conflictCount claims)) (later .1);
       })
 
-pub ask-step : (own : HardwareAddress) (s : Interface) (claims : List Claim) (asks : List ℕ) → Linked own s claims asks →
+pub ask-exchange : (own : HardwareAddress) (s : Interface) (claims : List Claim) (asks : List ℕ) → Linked own s claims asks →
     (time : Time) (address : Ipv4Address) (policy draw : ℕ) → askRefusal s time address policy ≡ none →
     LinkedAfter own claims asks (ask time address policy draw) (askOutcome s time address policy draw)
-ask-step own s claims asks linked time address policy draw e = go (lowest isFree (s .records)) refl
+ask-exchange own s claims asks linked time address policy draw e = go (lowest isFree (s .records)) refl
   where
     facts : AskAccepted s time address policy
     facts = ask-accepted s time address policy e

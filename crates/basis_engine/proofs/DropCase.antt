@@ -97,7 +97,7 @@ module _ (own : HardwareAddress) (s : Interface) (claims : List Claim) (asks : L
         lastAsk = rw same (linked .lastAsk);
       }
 
-pub drop-step : (own : HardwareAddress) (s : Interface) (claims : List Claim) (asks : List ℕ) → Linked own s claims asks →
+pub drop-exchange : (own : HardwareAddress) (s : Interface) (claims : List Claim) (asks : List ℕ) → Linked own s claims asks →
     (time : Time) (slot : ℕ) → dropRefusal s time slot ≡ none →
     LinkedAfter own claims asks (drop time slot) (dropOutcome s time slot)
-drop-step own s claims asks linked time slot e = drop-linked own s claims asks linked time slot (drop-accepted s time slot e .1)
+drop-exchange own s claims asks linked time slot e = drop-linked own s claims asks linked time slot (drop-accepted s time slot e .1)

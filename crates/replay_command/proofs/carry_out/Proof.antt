@@ -1,8 +1,8 @@
--- `replay_command::reply`: a refusal, a new interface, or a call.
+-- `replay_command::carry_out`: a refusal, a new interface, or a call.
 use borrow.Author.Needs.{needs}
 use Rattle.replay_command.proofs.CommandLaws.{carried-ends}
-use Rattle.replay_command.proofs.reply.Statement.{statement}
-use Rattle.replay_command.proofs.reply.Tie as tie
+use Rattle.replay_command.proofs.carry_out.Statement.{statement}
+use Rattle.replay_command.proofs.carry_out.Tie as tie
 
 returns : tie.Need-returns
 returns c = search carried-ends
@@ -13,8 +13,8 @@ returns-2 c = search carried-ends
 returns-3 : tie.Need-returns-3
 returns-3 c = search carried-ends
 
-pub reply-spec : {M : Type 1} → statement M
-reply-spec =
+pub carry-out-spec : {M : Type 1} → statement M
+carry-out-spec =
     tie.close
     (tie.spec
     (λ c κs. search needs)

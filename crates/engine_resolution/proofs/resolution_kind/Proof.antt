@@ -1,7 +1,7 @@
--- `engine_resolution::response_kind`: a kind for each response.
+-- `engine_resolution::resolution_kind`: a kind for each resolution.
 use borrow.Author.Needs.{needs}
-use Rattle.engine_resolution.proofs.response_kind.Statement.{statement}
-use Rattle.engine_resolution.proofs.response_kind.Tie as tie
+use Rattle.engine_resolution.proofs.resolution_kind.Statement.{statement}
+use Rattle.engine_resolution.proofs.resolution_kind.Tie as tie
 
 returns : tie.Need-returns
 returns c = search needs
@@ -12,8 +12,8 @@ returns-2 c = search needs
 returns-3 : tie.Need-returns-3
 returns-3 c = search needs
 
-pub response-kind-spec : {M : Type 1} → statement M
-response-kind-spec =
+pub resolution-kind-spec : {M : Type 1} → statement M
+resolution-kind-spec =
     tie.close
     (tie.spec
     (λ c. search needs)

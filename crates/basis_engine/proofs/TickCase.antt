@@ -186,11 +186,11 @@ module _ (own : HardwareAddress) (s : Interface) (claims : List Claim) (asks : L
             lastAsk = rw same (linked .lastAsk);
           })
 
-pub tick-step : (own : HardwareAddress) (s : Interface) (claims : List Claim) (asks : List ℕ) → Linked own s claims asks →
+pub tick-exchange : (own : HardwareAddress) (s : Interface) (claims : List Claim) (asks : List ℕ) → Linked own s claims asks →
     (time : Time) (draw : ℕ) (out : List ℕ) → tickRefusal s time (length out) ≡ none →
     LinkedAfter own claims asks (tick time draw out) (tickOutcome s time draw)
 unfolding tickOutcome r
-tick-step own s claims asks linked time draw out e = go (dueSlot time (s .records)) refl
+tick-exchange own s claims asks linked time draw out e = go (dueSlot time (s .records)) refl
   where
     admission : Admitted s time
     admission = tick-accepted s time (length out) e .0

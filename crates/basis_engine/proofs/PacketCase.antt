@@ -21,14 +21,14 @@ use Rattle.basis.specs.declared.Stage.{Stage}
 use Rattle.basis.specs.declared.Stage.the-variants.{Free, Probing, Announced, Settled}
 use Rattle.basis.specs.declared.Record.{Record}
 use Rattle.basis.specs.declared.Interface.{Interface}
-use Rattle.basis.specs.declared.Response.{Response}
-use Rattle.basis.specs.declared.Response.the-variants.{Lose, Defend, Keep}
+use Rattle.basis.specs.declared.Resolution.{Resolution}
+use Rattle.basis.specs.declared.Resolution.the-variants.{Lose, Defend, Keep}
 use Rattle.basis.proofs.BytesLaws.{and-both}
 use Rattle.basis_engine.specs.Timing.{rfc5227}
 use Rattle.basis_engine.specs.Slots.{recordAt, freeRecord, withStage, lowest}
 use Rattle.basis_engine.specs.Interface.{isFree, holds, isPast, isNear, isSoundStage}
-use Rattle.basis_engine.specs.Conflicts.{isConflict, countUp, byPolicy, responseAt, response, seenAt}
-use Rattle.basis_engine.specs.Calls.{packet, respond, meet, packetOutcome}
+use Rattle.basis_engine.specs.Conflicts.{isConflict, countUp, byPolicy, resolutionAt, resolution, seenAt}
+use Rattle.basis_engine.specs.Calls.{packet, resolve, meet, packetOutcome}
 use Rattle.basis_engine.specs.Refusals.{packetRefusal}
 use Rattle.basis_engine.specs.Claims.{Mark, Claim, isOpen, isOn, isOpenAfter, isConflictWith, struck, marked, markedLatest, conflictCount, claimsAfter, mark, aDefence, aConflict, timesOf}
 use Rattle.basis_engine.specs.Demand3.{Each}
@@ -41,14 +41,14 @@ use Rattle.basis_engine.proofs.Invariant.{LastAsk, agrees-open, Linked,
 use Rattle.basis_engine.proofs.ConflictLaws.{seen-free, agrees-conflict, conflict-held, one-concerned}
 use Rattle.basis_engine.proofs.Changes.{on-changed, unconcerned-each, same-each, concerned-marked}
 
-abbrev isLose : Response → Bool
+abbrev isLose : Resolution → Bool
 isLose Lose = true
 isLose Defend = false
 isLose Keep = false
 
--- What each response to a conflict leaves of a claim.
+-- What each resolution to a conflict leaves of a claim.
 module _ (policy : ℕ) (latest t : Time) (later : latest .0 ≤ t .0) (marks : List Mark) where
-  lost-story : (stage : Stage) → responseAt policy t stage ≡ Lose → Story policy stage marks → isOpenAfter policy (mark aConflict t ∷ marks) ≡ false
+  lost-story : (stage : Stage) → resolutionAt policy t stage ≡ Lose → Story policy stage marks → isOpenAfter policy (mark aConflict t ∷ marks) ≡ false
   lost-story Free e story = absurd story
   lost-story (Probing sent deadline) e story = ended-before-use policy t marks (untouched policy marks (story .only) .notInUse)
   lost-story (Announced deadline conflict) e story = ended-by-surrender policy t marks (lost-surrenders policy conflict 1 t marks story e)
@@ -59,7 +59,7 @@ module _ (policy : ℕ) (latest t : Time) (later : latest .0 ≤ t .0) (marks : 
   kept-in-use conflict sent w e past =
       conflict-borne policy conflict sent t marks w (past-later latest t conflict later past) (kept-bears policy conflict sent t marks w e)
 
-  kept-story : (stage : Stage) → responseAt policy t stage ≡ Keep → isSoundStage latest stage ≡ true → Story policy stage marks →
+  kept-story : (stage : Stage) → resolutionAt policy t stage ≡ Keep → isSoundStage latest stage ≡ true → Story policy stage marks →
       Story policy (seenAt t stage) (mark aConflict t ∷ marks)
   unfolding isSoundStage
   kept-story Free e sound story = absurd story
@@ -75,7 +75,7 @@ module _ (policy : ℕ) (latest t : Time) (later : latest .0 ≤ t .0) (marks : 
       defence-sent policy conflict sent t marks
       (conflict-borne policy conflict sent t marks w (past-later latest t conflict later past) (facts .0)) (w .behind) (facts .1)
 
-  defended-story : (stage : Stage) → responseAt policy t stage ≡ Defend → isSoundStage latest stage ≡ true → Story policy stage marks →
+  defended-story : (stage : Stage) → resolutionAt policy t stage ≡ Defend → isSoundStage latest stage ≡ true → Story policy stage marks →
       Story policy (seenAt t stage) (mark aDefence t ∷ (mark aConflict t ∷ marks))
   unfolding isSoundStage
   defended-story Free e sound story = absurd story
@@ -260,9 +260,9 @@ module _ (own : HardwareAddress) (s : Interface) (claims : List Claim) (asks : L
       count-after : countUp (s .conflicts) ≡ min (conflictCount (map (struck own t f) claims)) (rfc5227 .maxConflicts)
       count-after = rw counted (count-up (conflictCount claims) (s .conflicts) (linked .count))
 
-      asks-after : LastAsk asks (conflictCount (map (struck own t f) claims)) (s .request)
+      asks-after : LastAsk asks (conflictCount (map (struck own t f) claims)) (s .asked)
       asks-after =
-          rw counted (last-ask-counts asks (s .request) (conflictCount claims) (suc (conflictCount claims)) (omega arith) (linked .lastAsk))
+          rw counted (last-ask-counts asks (s .asked) (conflictCount claims) (suc (conflictCount claims)) (omega arith) (linked .lastAsk))
 
       soundStage : isSoundStage (s .latest) (r .stage) ≡ true
       unfolding r
@@ -271,7 +271,7 @@ module _ (own : HardwareAddress) (s : Interface) (claims : List Claim) (asks : L
       bounded : Bounded (here .latest .marks)
       bounded = agrees-bounded slot r (here .latest) agreed
 
-      lost : responseAt (r .policy) t (r .stage) ≡ Lose → LinkedAfter own claims asks (packet t bytes out) (respond s t slot r Lose)
+      lost : resolutionAt (r .policy) t (r .stage) ≡ Lose → LinkedAfter own claims asks (packet t bytes out) (resolve s t slot r Lose)
       unfolding claimsAfter f r
       lost e =
           record {
@@ -299,7 +299,7 @@ module _ (own : HardwareAddress) (s : Interface) (claims : List Claim) (asks : L
       unfolding seen
       seen-taken = seen-free t (r .stage) ∙ held
 
-      kept : responseAt (r .policy) t (r .stage) ≡ Keep → LinkedAfter own claims asks (packet t bytes out) (respond s t slot r Keep)
+      kept : resolutionAt (r .policy) t (r .stage) ≡ Keep → LinkedAfter own claims asks (packet t bytes out) (resolve s t slot r Keep)
       unfolding claimsAfter f r seen
       kept e =
           record {
@@ -338,7 +338,7 @@ module _ (own : HardwareAddress) (s : Interface) (claims : List Claim) (asks : L
       unfolding defended-claims
       defended-count = count-marked (r .address) (mark aDefence t) defence-conflicts (map (struck own t f) claims)
 
-      defend-here : responseAt (r .policy) t (r .stage) ≡ Defend → Link (r .address) (set (s .records) slot seen) (on (r .address) defended-claims)
+      defend-here : resolutionAt (r .policy) t (r .stage) ≡ Defend → Link (r .address) (set (s .records) slot seen) (on (r .address) defended-claims)
       unfolding defended-claims seen r
       defend-here e =
           rw (on-marked (r .address) (mark aDefence t) (map (struck own t f) claims), on-mine)
@@ -357,8 +357,8 @@ module _ (own : HardwareAddress) (s : Interface) (claims : List Claim) (asks : L
           rw (on-marked-other other (r .address) (λ e. apart (sym e)) (mark aDefence t) (map (struck own t f) claims))
           (links-other seen (λ other apart. holds-no-other other seen apart) other apart)
 
-      defended-linked : responseAt (r .policy) t (r .stage) ≡ Defend →
-          LinkedAfter own claims asks (packet t bytes out) (respond s t slot r Defend)
+      defended-linked : resolutionAt (r .policy) t (r .stage) ≡ Defend →
+          LinkedAfter own claims asks (packet t bytes out) (resolve s t slot r Defend)
       unfolding claimsAfter f r seen defended-claims
       defended-linked e =
           rw defends-here
@@ -371,17 +371,17 @@ module _ (own : HardwareAddress) (s : Interface) (claims : List Claim) (asks : L
             lastAsk = rw defended-count asks-after;
           })
 
-      packet-conflict : (chosen : Response) → responseAt (r .policy) t (r .stage) ≡ chosen →
-          LinkedAfter own claims asks (packet t bytes out) (respond s t slot r chosen)
+      packet-conflict : (chosen : Resolution) → resolutionAt (r .policy) t (r .stage) ≡ chosen →
+          LinkedAfter own claims asks (packet t bytes out) (resolve s t slot r chosen)
       packet-conflict Lose e = lost e
       packet-conflict Defend e = defended-linked e
       packet-conflict Keep e = kept e
 
-pub packet-step : (own : HardwareAddress) (s : Interface) (claims : List Claim) (asks : List ℕ) → Linked own s claims asks →
+pub packet-exchange : (own : HardwareAddress) (s : Interface) (claims : List Claim) (asks : List ℕ) → Linked own s claims asks →
     (time : Time) (bytes out : List ℕ) → packetRefusal s time bytes (length out) ≡ none →
     LinkedAfter own claims asks (packet time bytes out) (packetOutcome s time bytes)
-unfolding packetOutcome response f r
-packet-step own s claims asks linked t bytes out e = go (lowest (isConflict (s .hardware) (frameOf bytes)) (s .records)) refl
+unfolding packetOutcome resolution f r
+packet-exchange own s claims asks linked t bytes out e = go (lowest (isConflict (s .hardware) (frameOf bytes)) (s .records)) refl
   where
     admission : Admitted s t
     admission = packet-accepted s t bytes (length out) e
@@ -393,4 +393,4 @@ packet-step own s claims asks linked t bytes out e = go (lowest (isConflict (s .
         let q = recordAt (s .records) slot in
         let taken = held own s claims asks linked t bytes out admission slot found in
         let w = linked-here (q .address) (s .records) (on (q .address) claims) slot (holds-own q taken) (linked .links (q .address)) in
-        packet-conflict own s claims asks linked t bytes out admission slot found (w .0) (w .1) (responseAt (q .policy) t (q .stage)) refl
+        packet-conflict own s claims asks linked t bytes out admission slot found (w .0) (w .1) (resolutionAt (q .policy) t (q .stage)) refl
