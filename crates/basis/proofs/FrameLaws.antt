@@ -13,7 +13,7 @@ use borrow.Author.Tests.{lt-ltb, ltb-true, ltb-false, le-ltb, eqb-true}
 use Rattle.basis.specs.Addresses.{isHardware}
 use Rattle.basis.specs.Bytes.{bytesOf, numberOf, numberAt, sameBytes}
 use Rattle.basis.specs.Answers.{accepted, _if_else_}
-use Rattle.basis.specs.Frame.{frameBytes, requestHeader, probe, announcement, isKnownOperation, frameOf, isKnownFrame, readRefusal, readOf, isWritable, writeRefusal, framePut, writeOf, writeOut}
+use Rattle.basis.specs.Frame.{frameLength, frameBytes, requestHeader, probe, announcement, isKnownOperation, frameOf, isKnownFrame, readRefusal, readOf, isWritable, writeRefusal, framePut, writeOf, writeOut}
 use Rattle.basis.proofs.BytesLaws.{and-both, number-bytes-fits, part-append, numberAt-lt, numberAt-bytes, same-equal}
 use Rattle.basis.specs.declared.Ipv4Address.{Ipv4Address}
 use Rattle.basis.specs.declared.HardwareAddress.{HardwareAddress}
@@ -21,7 +21,7 @@ use Rattle.basis.specs.declared.Host.{Host}
 use Rattle.basis.specs.declared.Frame.{Frame}
 
 -- A frame is 28 bytes.
-pub frame-length : (f : Frame) → length (frameBytes f) ≡ 28
+pub frame-length : (f : Frame) → length (frameBytes f) ≡ frameLength
 unfolding frameBytes
 frame-length f = refl
 
@@ -99,21 +99,21 @@ known-fits operation h = go (eqb operation 1) refl
     go false e = let two = eqb-true operation 2 (rw e at h) in omega arith
 
 -- What an accepted write and an accepted read say of what they were given.
-pub write-accepted : (f : Frame) (room : ℕ) → writeRefusal f room ≡ none → (28 ≤ room) × (isWritable f ≡ true)
+pub write-accepted : (f : Frame) (room : ℕ) → writeRefusal f room ≡ none → (frameLength ≤ room) × (isWritable f ≡ true)
 unfolding writeRefusal
 write-accepted f room e =
-    let facts = neither 5 7 (ltb room 28) (isWritable f) e in
-    (ltb-false room 28 (facts .0), facts .1)
+    let facts = neither 5 7 (ltb room frameLength) (isWritable f) e in
+    (ltb-false room frameLength (facts .0), facts .1)
 
-write-passes : (f : Frame) (room : ℕ) → 28 ≤ room → isWritable f ≡ true → writeRefusal f room ≡ none
+write-passes : (f : Frame) (room : ℕ) → frameLength ≤ room → isWritable f ≡ true → writeRefusal f room ≡ none
 unfolding writeRefusal
-write-passes f room h w = rw (le-ltb room 28 h, w)
+write-passes f room h w = rw (le-ltb room frameLength h, w)
 
-read-accepted : (bytes : List ℕ) → readRefusal bytes ≡ none → (28 ≤ length bytes) × (isKnownFrame bytes ≡ true)
+read-accepted : (bytes : List ℕ) → readRefusal bytes ≡ none → (frameLength ≤ length bytes) × (isKnownFrame bytes ≡ true)
 unfolding readRefusal
 read-accepted bytes e =
-    let facts = neither 6 7 (ltb (length bytes) 28) (isKnownFrame bytes) e in
-    (ltb-false (length bytes) 28 (facts .0), facts .1)
+    let facts = neither 6 7 (ltb (length bytes) frameLength) (isKnownFrame bytes) e in
+    (ltb-false (length bytes) frameLength (facts .0), facts .1)
 
 -- The fields of a frame that starts any list of bytes.
 frame-fields : (f : Frame) (rest : List ℕ) → Writable f → Is32 (f .sender .ip) → Is32 (f .target .ip) →
@@ -136,7 +136,7 @@ frame-fields f rest w hs ht =
 pub handed-out-reads : (f : Frame) (out : List ℕ) → isWritable f ≡ true → Is32 (f .sender .ip) → Is32 (f .target .ip) →
     frameOf (framePut f out) ≡ f
 unfolding framePut
-handed-out-reads f out h hs ht = frame-fields f (drop 28 out) (writable f h) hs ht
+handed-out-reads f out h hs ht = frame-fields f (drop frameLength out) (writable f h) hs ht
 
 -- A frame that was written reads as ours.
 frame-is-known : (f : Frame) (rest : List ℕ) → isKnownOperation (f .operation) ≡ true → isKnownFrame (frameBytes f ++ rest) ≡ true
@@ -149,14 +149,14 @@ frame-reads : (f : Frame) (rest : List ℕ) → isWritable f ≡ true → Is32 (
 unfolding readOf readRefusal
 frame-reads f rest h hs ht =
     let w = writable f h in
-    rw (le-ltb (length (frameBytes f ++ rest)) 28 long, frame-is-known f rest (w .operation-known))
+    rw (le-ltb (length (frameBytes f ++ rest)) frameLength long, frame-is-known f rest (w .operation-known))
     (ap accepted (frame-fields f rest w hs ht))
   where
-    long : 28 ≤ length (frameBytes f ++ rest)
+    long : frameLength ≤ length (frameBytes f ++ rest)
     long = rw (length-append (frameBytes f) rest, frame-length f) (omega arith)
 
 -- An accepted write keeps the rest of the out buffer.
-pub write-keeps-rest : (f : Frame) (out : List ℕ) → writeRefusal f (length out) ≡ none → drop 28 (writeOut f out) ≡ drop 28 out
+pub write-keeps-rest : (f : Frame) (out : List ℕ) → writeRefusal f (length out) ≡ none → drop frameLength (writeOut f out) ≡ drop frameLength out
 unfolding writeOut framePut frameBytes
 write-keeps-rest f out e = rw e
 
@@ -165,11 +165,11 @@ pub written-reads-back : (f : Frame) (out : List ℕ) → Is32 (f .sender .ip) �
     writeRefusal f (length out) ≡ none → readOf (writeOut f out) ≡ accepted f
 unfolding writeOut framePut
 written-reads-back f out hs ht e =
-    rw e (frame-reads f (drop 28 out) (write-accepted f (length out) e .1) hs ht)
+    rw e (frame-reads f (drop frameLength out) (write-accepted f (length out) e .1) hs ht)
 
 -- Bytes after the 28th are ignored.
-module _ (bytes rest : List ℕ) (long : 28 ≤ length bytes) where
-  field-ignores : (i n : ℕ) → i + n ≤ 28 → numberAt i n (bytes ++ rest) ≡ numberAt i n bytes
+module _ (bytes rest : List ℕ) (long : frameLength ≤ length bytes) where
+  field-ignores : (i n : ℕ) → i + n ≤ frameLength → numberAt i n (bytes ++ rest) ≡ numberAt i n bytes
   field-ignores i n h = ap numberOf (part-append n i bytes rest (omega arith))
 
   pub frame-ignores : frameOf (bytes ++ rest) ≡ frameOf bytes
@@ -192,8 +192,8 @@ module _ (bytes rest : List ℕ) (long : 28 ≤ length bytes) where
   refusal-ignores =
       rw (
         known-ignores,
-        le-ltb (length bytes) 28 long,
-        le-ltb (length (bytes ++ rest)) 28 (rw length-append (omega arith)),
+        le-ltb (length bytes) frameLength long,
+        le-ltb (length (bytes ++ rest)) frameLength (rw length-append (omega arith)),
       )
 
   pub read-ignores-rest : readOf (bytes ++ rest) ≡ readOf bytes
@@ -211,7 +211,7 @@ pieces bytes =
     ++ take 4 (drop 24 bytes)
 
 -- A list of at least 28 bytes that begin as ours do: what the fields read from it are made of.
-module _ (bytes : List ℕ) (small : areBytes bytes ≡ true) (long : 28 ≤ length bytes) (known : isKnownFrame bytes ≡ true) where
+module _ (bytes : List ℕ) (small : areBytes bytes ≡ true) (long : frameLength ≤ length bytes) (known : isKnownFrame bytes ≡ true) where
   known-parts : (sameBytes (take 6 bytes) (take 6 requestHeader) ≡ true) × (isKnownOperation (numberAt 6 2 bytes) ≡ true)
   unfolding isKnownFrame
   known-parts = and-both (sameBytes (take 6 bytes) (take 6 requestHeader)) (isKnownOperation (numberAt 6 2 bytes)) known
@@ -225,10 +225,10 @@ module _ (bytes : List ℕ) (small : areBytes bytes ≡ true) (long : 28 ≤ len
         lt-ltb (numberAt 18 6 bytes) (2 ^ 48) (numberAt-lt 6 18 bytes small (omega arith)),
       )
 
-  cut : pieces bytes ≡ take 28 bytes
+  cut : pieces bytes ≡ take frameLength bytes
   cut = rw (← take-add 6 2 bytes, ← take-add 8 6 bytes, ← take-add 14 4 bytes, ← take-add 18 6 bytes, ← take-add 24 4 bytes)
 
-  fields-bytes : frameBytes (frameOf bytes) ≡ take 28 bytes
+  fields-bytes : frameBytes (frameOf bytes) ≡ take frameLength bytes
   unfolding frameBytes frameOf
   fields-bytes = rebuilt ∙ cut
     where
@@ -242,8 +242,8 @@ module _ (bytes : List ℕ) (small : areBytes bytes ≡ true) (long : 28 ≤ len
           ++ numberAt-bytes 4 24 bytes small (omega arith) i
 
 -- What was read, written again, gives the same 28 bytes.
-pub read-writes-again : (bytes out : List ℕ) → areBytes bytes ≡ true → readRefusal bytes ≡ none → 28 ≤ length out →
-    (writeOf (frameOf bytes) (length out) ≡ accepted tt) × (writeOut (frameOf bytes) out ≡ take 28 bytes ++ drop 28 out)
+pub read-writes-again : (bytes out : List ℕ) → areBytes bytes ≡ true → readRefusal bytes ≡ none → frameLength ≤ length out →
+    (writeOf (frameOf bytes) (length out) ≡ accepted tt) × (writeOut (frameOf bytes) out ≡ take frameLength bytes ++ drop frameLength out)
 unfolding writeOf writeOut framePut
 read-writes-again bytes out small e room =
     let facts = read-accepted bytes e in

@@ -65,6 +65,18 @@ kindWord Lost = 108 ∷ 111 ∷ 115 ∷ 116 ∷ []
 kindWord Kept = 107 ∷ 101 ∷ 112 ∷ 116 ∷ []
 kindWord Dropped = 100 ∷ 114 ∷ 111 ∷ 112 ∷ 112 ∷ 101 ∷ 100 ∷ []
 
+-- The kinds whose frame is in the out buffer.
+abbrev pub hasFrame : Kind → Bool
+hasFrame Fresh = false
+hasFrame Taken = false
+hasFrame Nothing = false
+hasFrame Probe = true
+hasFrame Announce = true
+hasFrame Defend = true
+hasFrame Lost = false
+hasFrame Kept = false
+hasFrame Dropped = false
+
 -- "The slot concerned or none, and the smallest deadline left or none."
 abbrev pub slotOf : SlotNumber → Option ℕ
 slotOf Absent = none

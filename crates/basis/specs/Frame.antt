@@ -16,6 +16,10 @@ use Rattle.basis.specs.declared.ReadAnswer.the-variants as ReadAnswer
 use Rattle.basis.specs.declared.WriteAnswer.{WriteAnswer}
 use Rattle.basis.specs.declared.WriteAnswer.the-variants as WriteAnswer
 
+-- "28 bytes".
+abbrev pub frameLength : ℕ
+frameLength = 28
+
 -- "28 bytes, most significant first: hardware type 1, protocol 0x0800, lengths 6 and 4, operation, sender hardware (6),
 -- sender IP (4), target hardware (6), target IP (4)."
 unfoldable pub frameBytes : Frame → List ℕ
@@ -36,19 +40,19 @@ requestHeader = 0 ∷ 1 ∷ 8 ∷ 0 ∷ 6 ∷ 4 ∷ 0 ∷ 1 ∷ []
 
 -- "Probe: operation 1, our hardware, sender IP zero, target hardware zero, target IP the address."
 unfoldable pub probe : HardwareAddress → Ipv4Address → Frame
-probe ours address =
+probe sender address =
     record {
       operation = 1;
-      sender = record { hardware = ours; ip = record { 0 = 0 } };
+      sender = record { hardware = sender; ip = record { 0 = 0 } };
       target = record { hardware = record { 0 = 0 }; ip = address };
     }
 
 -- "Announcement: the same with sender IP the address. A defence is the same bytes."
 unfoldable pub announcement : HardwareAddress → Ipv4Address → Frame
-announcement ours address =
+announcement sender address =
     record {
       operation = 1;
-      sender = record { hardware = ours; ip = address };
+      sender = record { hardware = sender; ip = address };
       target = record { hardware = record { 0 = 0 }; ip = address };
     }
 
@@ -71,7 +75,7 @@ isKnownFrame bytes = sameBytes (take 6 bytes) (take 6 requestHeader) && isKnownO
 
 -- The refusal of a read: 6, "packet under 28 bytes"; 7, "first six bytes other than ours, or operation not 1 or 2".
 unfoldable pub readRefusal : List ℕ → Option ℕ
-readRefusal bytes = 6 if ltb (length bytes) 28 else 7 if not (isKnownFrame bytes) else none
+readRefusal bytes = 6 if ltb (length bytes) frameLength else 7 if not (isKnownFrame bytes) else none
 
 -- Read, for any bytes.
 unfoldable pub readOf : List ℕ → Report Frame
@@ -84,11 +88,11 @@ isWritable f = isKnownOperation (f .operation) && isHardware (f .sender .hardwar
 -- The refusal of a write: 5, "out buffer under 28 bytes"; 7, "operation not 1 or 2". Document 01 is silent on a number that
 -- is no hardware address: it is 7 too (docs/DECISIONS.md, 2).
 unfoldable pub writeRefusal : Frame → ℕ → Option ℕ
-writeRefusal f room = 5 if ltb room 28 else 7 if not (isWritable f) else none
+writeRefusal f room = 5 if ltb room frameLength else 7 if not (isWritable f) else none
 
 -- "The 28 bytes at the start of the out buffer, the rest untouched."
 unfoldable pub framePut : Frame → List ℕ → List ℕ
-framePut f out = frameBytes f ++ drop 28 out
+framePut f out = frameBytes f ++ drop frameLength out
 
 -- Write, for any frame and any out buffer: what it reports, by the buffer's length, and the buffer afterwards.
 unfoldable pub writeOf : Frame → ℕ → Report (Unit {0})

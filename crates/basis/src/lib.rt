@@ -37,6 +37,9 @@ pub struct HardwareAddress(pub u64);
 // The first number above them: 2^48.
 pub const HARDWARE_END: u64 = 281_474_976_710_656;
 
+// The bytes of an ARP frame.
+pub const FRAME_LENGTH: usize = 28;
+
 // One of an ARP packet's two pairs of addresses.
 pub struct Host {
     pub hardware: HardwareAddress,
@@ -80,14 +83,41 @@ pub struct Record {
     pub stage: Stage,
 }
 
-// A network port: its own hardware address, the latest accepted time, the latest accepted ask, how many conflicts
+// What is chosen at fresh and kept: the own hardware address. It stands in a call (`Call`), so it holds no array.
+pub struct Setup {
+    pub hardware: HardwareAddress,
+}
+
+// A network port: what was chosen at fresh, the latest accepted time, the time of the latest accepted ask, how many conflicts
 // there were (10: ten or more), and its four slots.
 pub struct Interface {
-    pub hardware: HardwareAddress,
+    pub setup: Setup,
     pub latest: Time,
     pub asked: Moment,
     pub conflicts: u8,
     pub records: [Record; 4],
+}
+
+// A call with its arguments, but for what is lent to it: a packet's bytes, and the out buffer of a tick and of a packet.
+pub enum Call {
+    Fresh(Setup),
+    Ask {
+        time: Time,
+        address: Ipv4Address,
+        policy: u64,
+        draw: u32,
+    },
+    Tick {
+        time: Time,
+        draw: u32,
+    },
+    Packet {
+        time: Time,
+    },
+    Drop {
+        time: Time,
+        slot: u64,
+    },
 }
 
 // What a conflict calls for: the address is given up, defended by a frame, or kept without one.

@@ -10,26 +10,29 @@ use borrow.Author.Tests.{ltb-false, leb-true, le-leb, not-false}
 use Rattle.basis.specs.Times.{lastTime}
 use Rattle.basis.specs.Addresses.{isHardware}
 use Rattle.basis.specs.Answers.{_if_else_}
-use Rattle.basis.specs.Frame.{probe, announcement, isWritable, framePut, frameOf, readRefusal}
+use Rattle.basis.specs.Frame.{probe, announcement, isWritable, framePut, frameOf, readRefusal, frameLength}
 use Rattle.basis.specs.declared.Ipv4Address.{Ipv4Address}
-use Rattle.basis.specs.declared.HardwareAddress.{HardwareAddress}
+use Rattle.basis.specs.declared.Setup.{Setup}
 use Rattle.basis.specs.declared.Time.{Time}
 use Rattle.basis.specs.declared.Moment.{Moment}
 use Rattle.basis.specs.declared.Moment.the-variants.{Never, At}
 use Rattle.basis.specs.declared.Record.{Record}
 use Rattle.basis.specs.declared.Interface.{Interface}
+use Rattle.basis.specs.declared.HardwareAddress.{HardwareAddress}
 use Rattle.basis.proofs.BytesLaws.{and-both}
 use Rattle.basis.proofs.FrameLaws.{handed-out-reads}
-use Rattle.basis_engine.specs.Timing.{rfc5227}
 use Rattle.basis_engine.specs.Slots.{freeRecord, recordAt, lowest, isNone, all}
 use Rattle.basis_engine.specs.Interface.{isOwnHardware, firstByte, isAllowed, isPolicy, isFree, isHeld, isPast, isSoundStage, isSoundRecord, holdsNoneTwice, isSound}
 use Rattle.basis_engine.specs.Refusals.{stateAndTime, isTooSoon, askRefusal, tickRefusal, packetRefusal, dropRefusal}
 use Rattle.basis_engine.proofs.SlotLaws.{none≢some, neither, all-holds}
+use Rattle.basis_engine.specs.Interface.{senderOf, isSoundSetup}
+use Rattle.basis_engine.specs.Refusals.{stateTimeAndRoom}
+use Rattle.basis_engine.specs.Timing.{Timing, timingOf}
 
 -- Where no refusal is given, a row does not apply, and no later one gives one.
-pub row : (n : ℕ) (test : Bool) (others : Option ℕ) → n if test else others ≡ none → (test ≡ false) × (others ≡ none)
-row n true others e = absurd (none≢some (sym e))
-row n false others e = (refl, e)
+pub passed : (n : ℕ) (test : Bool) (others : Option ℕ) → n if test else others ≡ none → (test ≡ false) × (others ≡ none)
+passed n true others e = absurd (none≢some (sym e))
+passed n false others e = (refl, e)
 
 -- The rows 1, 3 and 4.
 pub record Admitted (s : Interface) (time : Time) : Type 0 where
@@ -41,9 +44,9 @@ pub admitted : (s : Interface) (time : Time) (others : Option ℕ) → stateAndT
     Admitted s time × (others ≡ none)
 unfolding stateAndTime
 admitted s time others e =
-    let one = row 1 (not (isSound s)) (3 if ltb lastTime (time .0) else 4 if ltb (time .0) (s .latest .0) else others) e in
-    let three = row 3 (ltb lastTime (time .0)) (4 if ltb (time .0) (s .latest .0) else others) (one .1) in
-    let four = row 4 (ltb (time .0) (s .latest .0)) others (three .1) in (
+    let one = passed 1 (not (isSound s)) (3 if ltb lastTime (time .0) else 4 if ltb (time .0) (s .latest .0) else others) e in
+    let three = passed 3 (ltb lastTime (time .0)) (4 if ltb (time .0) (s .latest .0) else others) (one .1) in
+    let four = passed 4 (ltb (time .0) (s .latest .0)) others (three .1) in (
       record {
         sound = not-false (isSound s) (one .0);
         inRange = ltb-false lastTime (time .0) (three .0);
@@ -52,31 +55,39 @@ admitted s time others e =
       four .1,
     )
 
+-- The rows 1, 3, 4 and 5.
+pub roomy : (s : Interface) (time : Time) (room : ℕ) (others : Option ℕ) → stateTimeAndRoom s time room others ≡ none →
+    Admitted s time × (frameLength ≤ room) × (others ≡ none)
+roomy s time room others e =
+    let w = admitted s time (5 if ltb room frameLength else others) e in
+    let five = passed 5 (ltb room frameLength) others (w .1) in
+    (w .0, ltb-false room frameLength (five .0), five .1)
+
 -- What a sound state has; that no address is in two slots apart.
 pub record Sound (s : Interface) : Type 0 where
-  pub own : isOwnHardware (s .hardware) ≡ true
+  pub chosen : isSoundSetup (s .setup) ≡ true
   pub inRange : s .latest .0 ≤ lastTime
-  pub counted : s .conflicts ≤ rfc5227 .maxConflicts
+  pub counted : s .conflicts ≤ timingOf (s .setup) .maxConflicts
   pub requested : isPast (s .latest) (s .asked) ≡ true
-  pub eachSound : all (isSoundRecord (s .latest)) (s .records) ≡ true
+  pub eachSound : all (isSoundRecord (timingOf (s .setup)) (s .latest)) (s .records) ≡ true
 
 pub sound : (s : Interface) → isSound s ≡ true → Sound s
 unfolding isSound
 sound s e =
-    let a = isOwnHardware (s .hardware) in
+    let a = isSoundSetup (s .setup) in
     let b = leb (s .latest .0) lastTime in
-    let c = leb (s .conflicts) (rfc5227 .maxConflicts) in
+    let c = leb (s .conflicts) (timingOf (s .setup) .maxConflicts) in
     let d = isPast (s .latest) (s .asked) in
-    let f = all (isSoundRecord (s .latest)) (s .records) in
+    let f = all (isSoundRecord (timingOf (s .setup)) (s .latest)) (s .records) in
     let six = and-both (a && b && c && d && f) (holdsNoneTwice (s .records)) e in
     let five = and-both (a && b && c && d) f (six .0) in
     let four = and-both (a && b && c) d (five .0) in
     let three = and-both (a && b) c (four .0) in
     let two = and-both a b (three .0) in
     record {
-      own = two .0;
+      chosen = two .0;
       inRange = leb-true (s .latest .0) lastTime (two .1);
-      counted = leb-true (s .conflicts) (rfc5227 .maxConflicts) (three .1);
+      counted = leb-true (s .conflicts) (timingOf (s .setup) .maxConflicts) (three .1);
       requested = four .1;
       eachSound = five .1;
     }
@@ -84,8 +95,8 @@ sound s e =
 pub sound-once : (s : Interface) → isSound s ≡ true → holdsNoneTwice (s .records) ≡ true
 unfolding isSound
 sound-once s e =
-    and-both (isOwnHardware (s .hardware) && leb (s .latest .0) lastTime && leb (s .conflicts) (rfc5227 .maxConflicts)
-    && isPast (s .latest) (s .asked) && all (isSoundRecord (s .latest)) (s .records)) (holdsNoneTwice (s .records)) e .1
+    and-both (isSoundSetup (s .setup) && leb (s .latest .0) lastTime && leb (s .conflicts) (timingOf (s .setup) .maxConflicts)
+    && isPast (s .latest) (s .asked) && all (isSoundRecord (timingOf (s .setup)) (s .latest)) (s .records)) (holdsNoneTwice (s .records)) e .1
 
 -- What is past stays past.
 pub past-later : (latest t : Time) (m : Moment) → latest .0 ≤ t .0 → isPast latest m ≡ true → isPast t m ≡ true
@@ -93,28 +104,28 @@ past-later latest t Never h past = refl
 past-later latest t (At seen) h past = let le = leb-true (seen .0) (latest .0) past in le-leb (seen .0) (t .0) (omega arith)
 
 -- A held record of a sound state.
-pub record SoundRecord (latest : Time) (r : Record) : Type 0 where
-  pub soundStage : isSoundStage latest (r .stage) ≡ true
+pub record SoundRecord (row : Timing) (latest : Time) (r : Record) : Type 0 where
+  pub soundStage : isSoundStage row latest (r .stage) ≡ true
   pub allowed : isAllowed (r .address) ≡ true
   pub known : isPolicy (r .policy) ≡ true
 
-pub sound-record : (latest : Time) (r : Record) → isSoundRecord latest r ≡ true → isFree r ≡ false → SoundRecord latest r
+pub sound-record : (row : Timing) (latest : Time) (r : Record) → isSoundRecord row latest r ≡ true → isFree r ≡ false → SoundRecord row latest r
 unfolding isSoundRecord
-sound-record latest r e held =
-    let rest : (isSoundStage latest (r .stage) && isAllowed (r .address) && isPolicy (r .policy)) ≡ true = rw held at e in
-    let two = and-both (isSoundStage latest (r .stage) && isAllowed (r .address)) (isPolicy (r .policy)) rest in
-    let one = and-both (isSoundStage latest (r .stage)) (isAllowed (r .address)) (two .0) in
+sound-record row latest r e held =
+    let rest : (isSoundStage row latest (r .stage) && isAllowed (r .address) && isPolicy (r .policy)) ≡ true = rw held at e in
+    let two = and-both (isSoundStage row latest (r .stage) && isAllowed (r .address)) (isPolicy (r .policy)) rest in
+    let one = and-both (isSoundStage row latest (r .stage)) (isAllowed (r .address)) (two .0) in
     record { soundStage = one .0; allowed = one .1; known = two .1 }
 
-pub free-sound : (latest : Time) → isSoundRecord latest freeRecord ≡ true
+pub free-sound : (row : Timing) (latest : Time) → isSoundRecord row latest freeRecord ≡ true
 unfolding isSoundRecord
-free-sound latest = refl
+free-sound row latest = refl
 
 pub sound-at : (s : Interface) (slot : ℕ) → isSound s ≡ true → isFree (recordAt (s .records) slot) ≡ false →
-    SoundRecord (s .latest) (recordAt (s .records) slot)
+    SoundRecord (timingOf (s .setup)) (s .latest) (recordAt (s .records) slot)
 sound-at s slot e held =
-    sound-record (s .latest) (recordAt (s .records) slot)
-    (all-holds (isSoundRecord (s .latest)) (s .records) slot (free-sound (s .latest)) (sound s e .eachSound)) held
+    sound-record (timingOf (s .setup)) (s .latest) (recordAt (s .records) slot)
+    (all-holds (isSoundRecord (timingOf (s .setup)) (s .latest)) (s .records) slot (free-sound (timingOf (s .setup)) (s .latest)) (sound s e .eachSound)) held
 
 -- An allowed address has 32 bits and is not zero.
 pub allowed-number : (address : Ipv4Address) → isAllowed address ≡ true → (0 < address .0) × (address .0 < 2 ^ 32)
@@ -126,27 +137,31 @@ allowed-number address e =
     let high = leb-true (firstByte address) 223 (one .1) in
     (omega arith, omega arith)
 
--- A sound state's own hardware address has 48 bits, so its requests can be written, and read back from where they were put.
+-- The sender of a sound state's frames has 48 bits, so they can be written, and read back from where they were put.
 pub own-hardware : (own : HardwareAddress) → isOwnHardware own ≡ true → isHardware own ≡ true
 unfolding isOwnHardware
 own-hardware own e =
     let two = and-both (isHardware own && not (eqb (own .0) 0)) (eqb (own .0 / 2 ^ 40 % 2) 0) e in
     and-both (isHardware own) (not (eqb (own .0) 0)) (two .0) .0
 
-module _ (own : HardwareAddress) (address : Ipv4Address) (owned : isOwnHardware own ≡ true) (allowed : isAllowed address ≡ true) where
-  pub probe-reads : (out : List ℕ) → frameOf (framePut (probe own address) out) ≡ probe own address
+pub sender-hardware : (setup : Setup) → isSoundSetup setup ≡ true → isHardware (senderOf setup) ≡ true
+sender-hardware setup e = own-hardware (setup .hardware) e
+
+module _ (setup : Setup) (address : Ipv4Address) (chosen : isSoundSetup setup ≡ true) (allowed : isAllowed address ≡ true) where
+  pub probe-reads : (out : List ℕ) → frameOf (framePut (probe (senderOf setup) address) out) ≡ probe (senderOf setup) address
   unfolding probe isWritable
   probe-reads out =
-      handed-out-reads (probe own address) out (rw (own-hardware own owned)) (omega arith) (allowed-number address allowed .1)
+      handed-out-reads (probe (senderOf setup) address) out (rw (sender-hardware setup chosen)) (omega arith) (allowed-number address allowed .1)
 
-  pub announcement-reads : (out : List ℕ) → frameOf (framePut (announcement own address) out) ≡ announcement own address
+  pub announcement-reads : (out : List ℕ) →
+      frameOf (framePut (announcement (senderOf setup) address) out) ≡ announcement (senderOf setup) address
   unfolding announcement isWritable
   announcement-reads out =
       let fits = allowed-number address allowed .1 in
-      handed-out-reads (announcement own address) out (rw (own-hardware own owned)) fits fits
+      handed-out-reads (announcement (senderOf setup) address) out (rw (sender-hardware setup chosen)) fits fits
 
 -- The other rows of each call.
-pub record AskAccepted (s : Interface) (time : Time) (address : Ipv4Address) (policy : ℕ) : Type 0 where
+pub record AskAccepted (s : Interface) (time : Time) (address : Ipv4Address) (policy draw : ℕ) : Type 0 where
   pub admission : Admitted s time
   pub allowed : isAllowed address ≡ true
   pub known : isPolicy policy ≡ true
@@ -154,20 +169,20 @@ pub record AskAccepted (s : Interface) (time : Time) (address : Ipv4Address) (po
   pub room : isNone (lowest isFree (s .records)) ≡ false
   pub inTime : isTooSoon s time ≡ false
 
-pub ask-accepted : (s : Interface) (time : Time) (address : Ipv4Address) (policy : ℕ) → askRefusal s time address policy ≡ none →
-    AskAccepted s time address policy
+pub ask-accepted : (s : Interface) (time : Time) (address : Ipv4Address) (policy draw : ℕ) → askRefusal s time address policy draw ≡ none →
+    AskAccepted s time address policy draw
 unfolding askRefusal
-ask-accepted s time address policy e =
+ask-accepted s time address policy draw e =
     let twelve = 12 if isTooSoon s time else none in
     let eleven = 11 if isNone (lowest isFree (s .records)) else twelve in
     let ten = 10 if isHeld address (s .records) else eleven in
     let nine = 9 if not (isPolicy policy) else ten in
     let w = admitted s time (8 if not (isAllowed address) else nine) e in
-    let a = row 8 (not (isAllowed address)) nine (w .1) in
-    let b = row 9 (not (isPolicy policy)) ten (a .1) in
-    let c = row 10 (isHeld address (s .records)) eleven (b .1) in
-    let d = row 11 (isNone (lowest isFree (s .records))) twelve (c .1) in
-    let f = row 12 (isTooSoon s time) none (d .1) in
+    let a = passed 8 (not (isAllowed address)) nine (w .1) in
+    let b = passed 9 (not (isPolicy policy)) ten (a .1) in
+    let c = passed 10 (isHeld address (s .records)) eleven (b .1) in
+    let d = passed 11 (isNone (lowest isFree (s .records))) twelve (c .1) in
+    let f = passed 12 (isTooSoon s time) none (d .1) in
     record {
       admission = w .0;
       allowed = not-false (isAllowed address) (a .0);
@@ -177,20 +192,18 @@ ask-accepted s time address policy e =
       inTime = f .0;
     }
 
-pub tick-accepted : (s : Interface) (time : Time) (room : ℕ) → tickRefusal s time room ≡ none → Admitted s time × (28 ≤ room)
+pub tick-accepted : (s : Interface) (time : Time) (draw room : ℕ) → tickRefusal s time draw room ≡ none → Admitted s time
 unfolding tickRefusal
-tick-accepted s time room e =
-    let w = admitted s time (5 if ltb room 28 else none) e in
-    (w .0, ltb-false room 28 (row 5 (ltb room 28) none (w .1) .0))
+tick-accepted s time draw room e = roomy s time room none e .0
 
 pub packet-accepted : (s : Interface) (time : Time) (bytes : List ℕ) (room : ℕ) → packetRefusal s time bytes room ≡ none → Admitted s time
 unfolding packetRefusal
-packet-accepted s time bytes room e = admitted s time (5 if ltb room 28 else readRefusal bytes) e .0
+packet-accepted s time bytes room e = roomy s time room (readRefusal bytes) e .0
 
 pub drop-accepted : (s : Interface) (time : Time) (slot : ℕ) → dropRefusal s time slot ≡ none →
     Admitted s time × (isFree (recordAt (s .records) slot) ≡ false)
 unfolding dropRefusal
 drop-accepted s time slot e =
     let w = admitted s time (13 if ltb 3 slot || isFree (recordAt (s .records) slot) else none) e in
-    let r = row 13 (ltb 3 slot || isFree (recordAt (s .records) slot)) none (w .1) in
+    let r = passed 13 (ltb 3 slot || isFree (recordAt (s .records) slot)) none (w .1) in
     (w .0, neither (ltb 3 slot) (isFree (recordAt (s .records) slot)) (r .0) .1)

@@ -11,44 +11,45 @@ use lib.Dec.{leb, eqb}
 use lib.ListN.{length, set}
 use borrow.Author.Tests.{leb-true, leb-false, ltb-false, eq-eqb, ne-eqb}
 use Rattle.basis.specs.declared.Ipv4Address.{Ipv4Address}
-use Rattle.basis.specs.declared.HardwareAddress.{HardwareAddress}
+use Rattle.basis.specs.declared.Setup.{Setup}
 use Rattle.basis.specs.declared.Time.{Time}
 use Rattle.basis.specs.declared.Moment.{Moment}
 use Rattle.basis.specs.declared.Moment.the-variants.{Never, At}
 use Rattle.basis.specs.declared.Record.{Record}
 use Rattle.basis.specs.declared.Interface.{Interface}
-use Rattle.basis_engine.specs.Timing.{rfc5227, wait, isWithin}
+use Rattle.basis.specs.declared.Call.the-variants as Call
+use Rattle.basis_engine.specs.Timing.{wait, isWithin, timingOf, Timing}
 use Rattle.basis_engine.specs.Slots.{recordAt, lowest}
 use Rattle.basis_engine.specs.Interface.{isFree, holds}
-use Rattle.basis_engine.specs.Calls.{ask, newClaim, askOutcome}
+use Rattle.basis_engine.specs.Calls.{newClaim, askOutcome}
 use Rattle.basis_engine.specs.Refusals.{askRefusal}
 use Rattle.basis_engine.specs.Claims.{Claim, claimsAfter, conflictCount, timesOf}
 use Rattle.basis_engine.specs.Demand3.{Spaced, IsAfter}
 use Rattle.basis_engine.proofs.SlotLaws.{lowest-holds, any-fails}
 use Rattle.basis_engine.proofs.Acceptance.{AskAccepted, ask-accepted}
 use Rattle.basis_engine.proofs.ClaimLaws.{on}
-use Rattle.basis_engine.proofs.Stories.{spaced-cons, asked}
+use Rattle.basis_engine.proofs.Stories.{spaced-cons, new-story}
 use Rattle.basis_engine.proofs.Links.{Link, link-elsewhere, link-taken}
 use Rattle.basis_engine.proofs.Invariant.{LastAsk, Linked, LinkedAfter, by-address, holds-own, holds-no-other, linked-away}
 
 -- The asks after the tenth conflict stay apart: with a count of 10 an ask that is too soon is refused.
-ask-after : (asks : List ℕ) (count : ℕ) (asked : Moment) (time : Time) → LastAsk asks count asked →
-    isWithin (rfc5227 .rateLimitInterval) time asked ≡ false → IsAfter (rfc5227 .rateLimitInterval) asks (time .0)
-ask-after [] count asked time last inTime = tt
-ask-after (t ∷ earlier) count Never time last inTime = absurd last
-ask-after (t ∷ earlier) count (At asked) time last inTime =
+ask-after : (row : Timing) (asks : List ℕ) (count : ℕ) (asked : Moment) (time : Time) → LastAsk row asks count asked →
+    isWithin (row .rateLimitInterval) time asked ≡ false → IsAfter (row .rateLimitInterval) asks (time .0)
+ask-after row [] count asked time last inTime = tt
+ask-after row (t ∷ earlier) count Never time last inTime = absurd last
+ask-after row (t ∷ earlier) count (At asked) time last inTime =
     let same = last .1 in
-    let h = ltb-false (time .0) (asked .0 + rfc5227 .rateLimitInterval) inTime in omega arith
+    let h = ltb-false (time .0) (asked .0 + row .rateLimitInterval) inTime in omega arith
 
-limited : (count : ℕ) (conflicts : ℕ) (near : Bool) → conflicts ≡ min count (rfc5227 .maxConflicts) → rfc5227 .maxConflicts ≤ count →
-    (eqb conflicts (rfc5227 .maxConflicts) && near) ≡ false → near ≡ false
-limited count conflicts near told ten e = rw (eq-eqb conflicts (rfc5227 .maxConflicts) (omega arith)) at e
+limited : (row : Timing) (count : ℕ) (conflicts : ℕ) (near : Bool) → conflicts ≡ min count (row .maxConflicts) → row .maxConflicts ≤ count →
+    (eqb conflicts (row .maxConflicts) && near) ≡ false → near ≡ false
+limited row count conflicts near told ten e = rw (eq-eqb conflicts (row .maxConflicts) (omega arith)) at e
 
-module _ (own : HardwareAddress) (s : Interface) (claims : List Claim) (asks : List ℕ) (linked : Linked own s claims asks)
-    (time : Time) (address : Ipv4Address) (policy draw slot : ℕ) (accepted : AskAccepted s time address policy)
+module _ (setup : Setup) (s : Interface) (claims : List Claim) (asks : List ℕ) (linked : Linked setup s claims asks)
+    (time : Time) (address : Ipv4Address) (policy draw slot : ℕ) (bytes lent : List ℕ) (accepted : AskAccepted s time address policy draw)
     (lowestFree : lowest isFree (s .records) ≡ some slot) where
   new : Record
-  new = newClaim time address policy draw
+  new = newClaim (timingOf setup) time address policy draw
 
   claim : Claim
   claim = record { address = address; policy = policy; slot = some slot; marks = [] }
@@ -60,65 +61,65 @@ module _ (own : HardwareAddress) (s : Interface) (claims : List Claim) (asks : L
   room = lowest-holds isFree (s .records) slot lowestFree .1
 
   -- A claim on another address does not show among the claims on this one.
-  ask-links : (other : Ipv4Address) → Link other (set (s .records) slot new) (on other (claim ∷ claims))
+  ask-links : (other : Ipv4Address) → Link (timingOf setup) other (set (s .records) slot new) (on other (claim ∷ claims))
   unfolding on new claim
   ask-links =
-      by-address (λ (a : Ipv4Address). Link a (set (s .records) slot new) (on a (claim ∷ claims))) address
+      by-address (λ (a : Ipv4Address). Link (timingOf setup) a (set (s .records) slot new) (on a (claim ∷ claims))) address
       (rw (eq-eqb (address .0) (address .0) refl)
-      (inr (link-taken (s .records) slot new room address claim (on address claims)
+      (inr (link-taken (s .records) slot new room (timingOf setup) address claim (on address claims)
       (holds-own new refl)
-      (record { sameAddress = refl; sameSlot = refl; samePolicy = refl; story = asked (time .0 + wait draw) })
-      (linked-away address (s .records) (on address claims)
+      (record { sameAddress = refl; sameSlot = refl; samePolicy = refl; story = new-story (timingOf setup) (time .0 + wait (timingOf setup) draw) })
+      (linked-away (timingOf setup) address (s .records) (on address claims)
       (λ n. any-fails (holds address) (s .records) n refl (accepted .notHeld)) (linked .links address)))))
       (λ other apart.
       rw (ne-eqb (address .0) (other .0) (λ e. apart (sym e)))
-      (link-elsewhere (s .records) slot new room other (on other claims)
+      (link-elsewhere (s .records) slot new room (timingOf setup) other (on other claims)
       (rw free) (holds-no-other other new apart) (linked .links other)))
 
   -- With fewer than ten conflicts there was no ask after the tenth.
-  none-yet : (asks : List ℕ) (count : ℕ) (asked : Moment) → LastAsk asks count asked → count < rfc5227 .maxConflicts →
-      LastAsk asks count (At time)
+  none-yet : (asks : List ℕ) (count : ℕ) (asked : Moment) → LastAsk (timingOf setup) asks count asked → count < timingOf setup .maxConflicts →
+      LastAsk (timingOf setup) asks count (At time)
   none-yet [] count asked last few = tt
   none-yet (t ∷ earlier) count Never last few = absurd last
   none-yet (t ∷ earlier) count (At asked) last few = let ten = last .0 in (omega arith, omega arith)
 
-  ask-asks : (b : Bool) → leb (rfc5227 .maxConflicts) (conflictCount claims) ≡ b →
-      Spaced (rfc5227 .rateLimitInterval) (cond b (time .0 ∷ asks) asks)
-      × LastAsk (cond b (time .0 ∷ asks) asks) (conflictCount claims) (At time)
+  ask-asks : (b : Bool) → leb (timingOf setup .maxConflicts) (conflictCount claims) ≡ b →
+      Spaced (timingOf setup .rateLimitInterval) (cond b (time .0 ∷ asks) asks)
+      × LastAsk (timingOf setup) (cond b (time .0 ∷ asks) asks) (conflictCount claims) (At time)
   ask-asks true e =
-      let ten = leb-true (rfc5227 .maxConflicts) (conflictCount claims) e in
-      let near = limited (conflictCount claims) (s .conflicts) (isWithin (rfc5227 .rateLimitInterval) time (s .asked)) (linked .count)
+      let ten = leb-true (timingOf setup .maxConflicts) (conflictCount claims) e in
+      let near = limited (timingOf setup) (conflictCount claims) (s .conflicts) (isWithin (timingOf setup .rateLimitInterval) time (s .asked)) (linked .count)
       ten (accepted .inTime) in
-      let later = ask-after asks (conflictCount claims) (s .asked) time (linked .lastAsk) near in
-      (spaced-cons (rfc5227 .rateLimitInterval) (time .0) asks later (linked .asksApart), (ten, refl))
+      let later = ask-after (timingOf setup) asks (conflictCount claims) (s .asked) time (linked .lastAsk) near in
+      (spaced-cons (timingOf setup .rateLimitInterval) (time .0) asks later (linked .asksApart), (ten, refl))
   ask-asks false e = (
     linked .asksApart,
     none-yet asks (conflictCount claims) (s .asked) (linked .lastAsk)
-        (leb-false (rfc5227 .maxConflicts) (conflictCount claims) e),
+        (leb-false (timingOf setup .maxConflicts) (conflictCount claims) e),
   )
 
-  ask-linked : LinkedAfter own claims asks (ask time address policy draw) (askOutcome s time address policy draw)
+  ask-done : LinkedAfter setup claims asks (Call.Ask time address policy draw) bytes lent (askOutcome s time address policy draw)
   unfolding askOutcome claimsAfter conflictCount timesOf new claim
-  ask-linked =
-      let later = ask-asks (leb (rfc5227 .maxConflicts) (conflictCount claims)) refl in
+  ask-done =
+      let later = ask-asks (leb (timingOf setup .maxConflicts) (conflictCount claims)) refl in
       rw lowestFree
       (record {
-        hardware = linked .hardware;
+        kept = linked .kept;
         links = ask-links;
         count = rw (zero-add (conflictCount claims)) (linked .count);
         asksApart = later .0;
         lastAsk = rw (zero-add (conflictCount claims)) (later .1);
       })
 
-pub ask-exchange : (own : HardwareAddress) (s : Interface) (claims : List Claim) (asks : List ℕ) → Linked own s claims asks →
-    (time : Time) (address : Ipv4Address) (policy draw : ℕ) → askRefusal s time address policy ≡ none →
-    LinkedAfter own claims asks (ask time address policy draw) (askOutcome s time address policy draw)
-ask-exchange own s claims asks linked time address policy draw e = go (lowest isFree (s .records)) refl
+pub ask-linked : (setup : Setup) (s : Interface) (claims : List Claim) (asks : List ℕ) → Linked setup s claims asks →
+    (time : Time) (address : Ipv4Address) (policy draw : ℕ) (bytes lent : List ℕ) → askRefusal s time address policy draw ≡ none →
+    LinkedAfter setup claims asks (Call.Ask time address policy draw) bytes lent (askOutcome s time address policy draw)
+ask-linked setup s claims asks linked time address policy draw bytes lent e = go (lowest isFree (s .records)) refl
   where
-    facts : AskAccepted s time address policy
-    facts = ask-accepted s time address policy e
+    facts : AskAccepted s time address policy draw
+    facts = ask-accepted s time address policy draw e
 
     go : (o : Option ℕ) → lowest isFree (s .records) ≡ o →
-        LinkedAfter own claims asks (ask time address policy draw) (askOutcome s time address policy draw)
+        LinkedAfter setup claims asks (Call.Ask time address policy draw) bytes lent (askOutcome s time address policy draw)
     go none full = absurd (true≢false (rw full at (facts .room)))
-    go (some slot) lowestFree = ask-linked own s claims asks linked time address policy draw slot facts lowestFree
+    go (some slot) lowestFree = ask-done setup s claims asks linked time address policy draw slot bytes lent facts lowestFree

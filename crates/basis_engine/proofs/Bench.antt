@@ -6,7 +6,7 @@ use Rattle.basis_engine.specs.Slots.{any, all, lowestFrom}
 use Rattle.basis_engine.specs.Interface.{isOwnHardware, isAllowed, isSoundStage, isSoundRecord, holdsNoneTwice, isSound}
 use Rattle.basis_engine.specs.Deadlines.{smallestDeadline, dueSlot}
 use Rattle.basis_engine.specs.Conflicts.{resolution}
-use Rattle.basis_engine.specs.Calls.{service, freshOutcome, askOutcome, tickOutcome, packetOutcome}
+use Rattle.basis_engine.specs.Calls.{dueFrame, stageAfter, freshOutcome, askOutcome, tickOutcome, packetOutcome}
 use Rattle.basis_engine.specs.Refusals.{stateAndTime, freshRefusal, askRefusal, tickRefusal, packetRefusal}
 use Rattle.basis_engine.specs.Machine.{refusalOf, outcomeOf, resultOf}
 use Rattle.basis_engine.specs.Claims.{timesOf, markedLatest, claimsAfter, claimsOf}
@@ -22,13 +22,13 @@ bench-cases = refl
 pub whole-case : WholeCase
 unfolding
     frameBytes probe announcement framePut any all lowestFrom isOwnHardware isAllowed isSoundStage isSoundRecord holdsNoneTwice isSound
-    smallestDeadline dueSlot service freshOutcome askOutcome tickOutcome stateAndTime freshRefusal askRefusal tickRefusal
+    smallestDeadline dueSlot dueFrame stageAfter freshOutcome askOutcome tickOutcome stateAndTime freshRefusal askRefusal tickRefusal
     refusalOf outcomeOf resultOf lines
 whole-case = refl
 
 pub whole-claim : WholeClaim
 unfolding
     frameBytes probe announcement frameOf framePut any all lowestFrom isOwnHardware isAllowed isSoundStage isSoundRecord
-    holdsNoneTwice isSound smallestDeadline dueSlot service freshOutcome askOutcome tickOutcome stateAndTime freshRefusal askRefusal
+    holdsNoneTwice isSound smallestDeadline dueSlot dueFrame stageAfter freshOutcome askOutcome tickOutcome stateAndTime freshRefusal askRefusal
     tickRefusal refusalOf outcomeOf resultOf seenOf timesOf markedLatest claimsAfter claimsOf
 whole-claim = record { oneClaim = refl; allProbes = refl; allAnnouncements = refl }

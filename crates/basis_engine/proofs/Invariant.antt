@@ -11,7 +11,6 @@ use lib.ListN.{length}
 use borrow.Author.Tests.{not-true, eqb-true, eqb-false, eq-eqb, ne-eqb}
 use Rattle.basis.specs.Answers.{accepted}
 use Rattle.basis.specs.declared.Ipv4Address.{Ipv4Address}
-use Rattle.basis.specs.declared.HardwareAddress.{HardwareAddress}
 use Rattle.basis.specs.declared.Time.{Time}
 use Rattle.basis.specs.declared.Moment.{Moment}
 use Rattle.basis.specs.declared.Moment.the-variants.{Never, At}
@@ -19,44 +18,47 @@ use Rattle.basis.specs.declared.Stage.{Stage}
 use Rattle.basis.specs.declared.Stage.the-variants.{Free, Probing, Announced, Settled}
 use Rattle.basis.specs.declared.Record.{Record}
 use Rattle.basis.specs.declared.Interface.{Interface}
+use Rattle.basis.specs.declared.Call.{Call}
+use Rattle.basis.specs.declared.Setup.{Setup}
 use Rattle.basis.proofs.BytesLaws.{and-both}
-use Rattle.basis_engine.specs.Timing.{rfc5227}
 use Rattle.basis_engine.specs.Slots.{recordAt}
 use Rattle.basis_engine.specs.Interface.{isFree, holds, isHeld, holdsNoneTwice}
-use Rattle.basis_engine.specs.Calls.{Call, Outcome, renewed}
-use Rattle.basis_engine.specs.Machine.{lent, handedOut, acceptedAs}
+use Rattle.basis_engine.specs.Calls.{Outcome, renewed}
+use Rattle.basis_engine.specs.Machine.{handedOut, acceptedAs}
 use Rattle.basis_engine.specs.Claims.{claimsAfter, asksBy, Mark, Claim, isOpen, isOpenAfter, conflictCount, marked, markedLatest, isOn, aConflict, timesOf}
 use Rattle.basis_engine.specs.Demand3.{Spaced}
 use Rattle.basis_engine.proofs.SlotLaws.{any-fails, any-slot}
+use Rattle.basis_engine.proofs.Rows.{Fits}
 use Rattle.basis_engine.proofs.ClaimLaws.{on}
 use Rattle.basis_engine.proofs.Stories.{untouched, Bounded, probing-bounded, in-use-bounded}
 use Rattle.basis_engine.proofs.Links.{Story, Agrees, Away, Here, Link}
+use Rattle.basis_engine.specs.Timing.{Timing, timingOf}
 
 -- Where there were asks after the tenth conflict, the count is at least 10, and the latest of them is the latest request.
-abbrev pub LastAsk : List ℕ → ℕ → Moment → Type 0
-LastAsk [] count asked = Unit {0}
-LastAsk (t ∷ earlier) count Never = ⊥
-LastAsk (t ∷ earlier) count (At asked) = (rfc5227 .maxConflicts ≤ count) × (t ≡ asked .0)
+abbrev pub LastAsk : (row : Timing) → List ℕ → ℕ → Moment → Type 0
+LastAsk row [] count asked = Unit {0}
+LastAsk row (t ∷ earlier) count Never = ⊥
+LastAsk row (t ∷ earlier) count (At asked) = (row .maxConflicts ≤ count) × (t ≡ asked .0)
 
-pub last-ask-counts : (asks : List ℕ) (asked : Moment) (count more : ℕ) → count ≤ more → LastAsk asks count asked →
-    LastAsk asks more asked
-last-ask-counts [] asked count more h last = tt
-last-ask-counts (t ∷ earlier) Never count more h last = last
-last-ask-counts (t ∷ earlier) (At asked) count more h last = let ten = last .0 in (omega arith, last .1)
+pub last-ask-counts : (row : Timing) → (asks : List ℕ) (asked : Moment) (count more : ℕ) → count ≤ more → LastAsk row asks count asked →
+    LastAsk row asks more asked
+last-ask-counts row [] asked count more h last = tt
+last-ask-counts row (t ∷ earlier) Never count more h last = last
+last-ask-counts row (t ∷ earlier) (At asked) count more h last = let ten = last .0 in (omega arith, last .1)
 
-pub record Linked (own : HardwareAddress) (s : Interface) (claims : List Claim) (asks : List ℕ) : Type 0 where
-  pub hardware : s .hardware ≡ own
-  pub links : (address : Ipv4Address) → Link address (s .records) (on address claims)
-  pub count : s .conflicts ≡ min (conflictCount claims) (rfc5227 .maxConflicts)
-  pub asksApart : Spaced (rfc5227 .rateLimitInterval) asks
-  pub lastAsk : LastAsk asks (conflictCount claims) (s .asked)
+pub record Linked (setup : Setup) (s : Interface) (claims : List Claim) (asks : List ℕ) : Type 0 where
+  pub kept : s .setup ≡ setup
+  pub links : (address : Ipv4Address) → Link (timingOf setup) address (s .records) (on address claims)
+  pub count : s .conflicts ≡ min (conflictCount claims) (timingOf setup .maxConflicts)
+  pub asksApart : Spaced (timingOf setup .rateLimitInterval) asks
+  pub lastAsk : LastAsk (timingOf setup) asks (conflictCount claims) (s .asked)
 
 -- A later time alone leaves it.
-pub linked-later : (own : HardwareAddress) (s : Interface) (claims : List Claim) (asks : List ℕ) (time : Time) → Linked own s claims asks →
-    Linked own (renewed s time (s .records)) claims asks
-linked-later own s claims asks time linked =
+pub linked-later : (setup : Setup) (s : Interface) (claims : List Claim) (asks : List ℕ) (time : Time) → Linked setup s claims asks →
+    Linked setup (renewed s time (s .records)) claims asks
+linked-later setup s claims asks time linked =
     record {
-      hardware = linked .hardware;
+      kept = linked .kept;
       links = linked .links;
       count = linked .count;
       asksApart = linked .asksApart;
@@ -64,11 +66,11 @@ linked-later own s claims asks time linked =
     }
 
 -- The link after an accepted call with this outcome.
-abbrev pub LinkedAfter : HardwareAddress → List Claim → List ℕ → Call → Outcome → Type 0
-LinkedAfter own claims asks call outcome =
-    Linked own (outcome .state)
-    (claimsAfter own call (acceptedAs outcome) (handedOut (outcome .frame) (lent call)) claims)
-    (asksBy call (accepted (acceptedAs outcome)) claims asks)
+abbrev pub LinkedAfter : Setup → List Claim → List ℕ → Call → List ℕ → List ℕ → Outcome → Type 0
+LinkedAfter setup claims asks call bytes lent outcome =
+    Linked setup (outcome .state)
+    (claimsAfter setup call bytes (acceptedAs outcome) (handedOut (outcome .frame) lent) claims)
+    (asksBy (timingOf setup) call (accepted (acceptedAs outcome)) claims asks)
 
 -- Addresses of one number are one.
 pub same-address : (a b : Ipv4Address) → a .0 ≡ b .0 → a ≡ b
@@ -142,36 +144,36 @@ held-in-one (r ∷ records) address (suc slot) (suc other) e h k =
     (and-both (isFree r || not (isHeld (r .address) records)) (holdsNoneTwice records) e .1) h k)
 
 -- An address that is in a slot: its claims, and that the link's slot is this one.
-pub linked-here : (address : Ipv4Address) (records : List Record) (claims : List Claim) (slot : ℕ) →
-    holds address (recordAt records slot) ≡ true → Link address records claims →
-    (here : Here address records claims) × (here .slot ≡ slot)
-linked-here address records claims slot e (inl away) = absurd (false≢true (sym (away .nowhere slot) ∙ e))
-linked-here address records claims slot e (inr here) = (here, sym (here .onlyHere slot e))
+pub linked-here : (row : Timing) → (address : Ipv4Address) (records : List Record) (claims : List Claim) (slot : ℕ) →
+    holds address (recordAt records slot) ≡ true → Link row address records claims →
+    (here : Here row address records claims) × (here .slot ≡ slot)
+linked-here row address records claims slot e (inl away) = absurd (false≢true (sym (away .nowhere slot) ∙ e))
+linked-here row address records claims slot e (inr here) = (here, sym (here .onlyHere slot e))
 
-pub linked-away : (address : Ipv4Address) (records : List Record) (claims : List Claim) →
-    ((slot : ℕ) → holds address (recordAt records slot) ≡ false) → Link address records claims → Away address records claims
-linked-away address records claims nowhere (inl away) = away
-linked-away address records claims nowhere (inr here) = absurd (false≢true (sym (nowhere (here .slot)) ∙ here .held))
+pub linked-away : (row : Timing) → (address : Ipv4Address) (records : List Record) (claims : List Claim) →
+    ((slot : ℕ) → holds address (recordAt records slot) ≡ false) → Link row address records claims → Away row address records claims
+linked-away row address records claims nowhere (inl away) = away
+linked-away row address records claims nowhere (inr here) = absurd (false≢true (sym (nowhere (here .slot)) ∙ here .held))
 
 -- A story's claim is open, and its frames are few.
-story-open : (policy : ℕ) (stage : Stage) (marks : List Mark) → Story policy stage marks → isOpenAfter policy marks ≡ true
-story-open policy Free marks story = absurd story
-story-open policy (Probing sent deadline) marks story = untouched policy marks (story .only) .stillOpen
-story-open policy (Announced deadline conflict) marks story = story .stillOpen
-story-open policy (Settled conflict) marks story = story .stillOpen
+story-open : (row : Timing) → (policy : ℕ) (stage : Stage) (marks : List Mark) → Story row policy stage marks → isOpenAfter row policy marks ≡ true
+story-open row policy Free marks story = absurd story
+story-open row policy (Probing sent deadline) marks story = untouched row policy marks (story .only) .stillOpen
+story-open row policy (Announced deadline conflict) marks story = story .stillOpen
+story-open row policy (Settled conflict) marks story = story .stillOpen
 
-story-bounded : (policy : ℕ) (stage : Stage) (marks : List Mark) → Story policy stage marks → Bounded marks
-story-bounded policy Free marks story = absurd story
-story-bounded policy (Probing sent deadline) marks story = probing-bounded sent (deadline .0) marks story
-story-bounded policy (Announced deadline conflict) marks story = in-use-bounded policy conflict 1 marks (omega arith) story
-story-bounded policy (Settled conflict) marks story = in-use-bounded policy conflict 2 marks (omega arith) story
+story-bounded : (row : Timing) → Fits row → (policy : ℕ) (stage : Stage) (marks : List Mark) → Story row policy stage marks → Bounded row marks
+story-bounded row fits policy Free marks story = absurd story
+story-bounded row fits policy (Probing sent deadline) marks story = probing-bounded row sent (deadline .0) marks story
+story-bounded row fits policy (Announced deadline conflict) marks story = let two = fits .twoAnnouncements in in-use-bounded row policy conflict 1 marks (omega arith) story
+story-bounded row fits policy (Settled conflict) marks story = in-use-bounded row policy conflict 2 marks (fits .twoAnnouncements) story
 
-module _ (slot : ℕ) (r : Record) (c : Claim) (agrees : Agrees slot r c) where
-  pub agrees-open : isOpen c ≡ true
-  agrees-open = rw (agrees .samePolicy) (story-open (r .policy) (r .stage) (c .marks) (agrees .story))
+module _ (row : Timing) (slot : ℕ) (r : Record) (c : Claim) (agrees : Agrees row slot r c) where
+  pub agrees-open : isOpen row c ≡ true
+  agrees-open = rw (agrees .samePolicy) (story-open row (r .policy) (r .stage) (c .marks) (agrees .story))
 
-  pub agrees-bounded : Bounded (c .marks)
-  agrees-bounded = story-bounded (r .policy) (r .stage) (c .marks) (agrees .story)
+  pub agrees-bounded : Fits row → Bounded row (c .marks)
+  agrees-bounded fits = story-bounded row fits (r .policy) (r .stage) (c .marks) (agrees .story)
 
 -- A mark that is no conflict, and a change that makes none, leave the count.
 pub count-marked : (address : Ipv4Address) (mark : Mark) → ((marks : List Mark) → timesOf aConflict (mark ∷ marks) ≡ timesOf aConflict marks) →

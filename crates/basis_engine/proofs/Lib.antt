@@ -1,6 +1,7 @@
 -- What follows from the definitions.
 pub mod SlotLaws
 pub mod DeadlineLaws
+pub mod Rows
 pub mod Windows
 pub mod ClaimLaws
 pub mod Stories

@@ -8,31 +8,32 @@ use lib.Dec.{leb}
 use lib.ListN.{length, take, drop, take-append-drop}
 use lib.Seq.{length-take-le, take-all}
 use borrow.Author.Tests.{leb-true, leb-false}
-use Rattle.basis.specs.Frame.{frameOf, readRefusal}
+use Rattle.basis.specs.Frame.{frameOf, readRefusal, frameLength}
 use Rattle.basis.specs.declared.Time.{Time}
 use Rattle.basis.specs.declared.Interface.{Interface}
+use Rattle.basis.specs.declared.Call.the-variants as Call
 use Rattle.basis.proofs.FrameLaws.{frame-ignores, refusal-ignores}
-use Rattle.basis_engine.specs.Calls.{packet, packetOutcome}
+use Rattle.basis_engine.specs.Calls.{packetOutcome}
 use Rattle.basis_engine.specs.Refusals.{packetRefusal}
 use Rattle.basis_engine.specs.Machine.{refusalOf, outcomeOf, resultOf}
 
 -- Of what does not look behind the 28th byte.
-heads : {A : Type 0} (f : List ℕ → A) → ((front rest : List ℕ) → 28 ≤ length front → f (front ++ rest) ≡ f front)
-    → (bytes : List ℕ) → f (take 28 bytes) ≡ f bytes
-heads f ignores bytes = cases (leb (length bytes) 28) refl
+heads : {A : Type 0} (f : List ℕ → A) → ((front rest : List ℕ) → frameLength ≤ length front → f (front ++ rest) ≡ f front)
+    → (bytes : List ℕ) → f (take frameLength bytes) ≡ f bytes
+heads f ignores bytes = cases (leb (length bytes) frameLength) refl
   where
-    cases : (t : Bool) → leb (length bytes) 28 ≡ t → f (take 28 bytes) ≡ f bytes
-    cases true e = ap f (take-all 28 bytes (leb-true (length bytes) 28 e))
+    cases : (t : Bool) → leb (length bytes) frameLength ≡ t → f (take frameLength bytes) ≡ f bytes
+    cases true e = ap f (take-all frameLength bytes (leb-true (length bytes) frameLength e))
     cases false e =
-        let long : 28 ≤ length bytes = omega (arith, leb-false (length bytes) 28 e) in
-        sym (ignores (take 28 bytes) (drop 28 bytes) (omega (arith, length-take-le 28 bytes long)))
-        ∙ ap f (take-append-drop 28 bytes)
+        let long : frameLength ≤ length bytes = omega (arith, leb-false (length bytes) frameLength e) in
+        sym (ignores (take frameLength bytes) (drop frameLength bytes) (omega (arith, length-take-le frameLength bytes long)))
+        ∙ ap f (take-append-drop frameLength bytes)
 
-module _ (s : Interface) (time : Time) (bytes out : List ℕ) where
-  pub outcome-head : outcomeOf s (packet time (take 28 bytes) out) ≡ outcomeOf s (packet time bytes out)
+module _ (s : Interface) (time : Time) (bytes lent : List ℕ) where
+  pub outcome-head : outcomeOf s (Call.Packet time) (take frameLength bytes) ≡ outcomeOf s (Call.Packet time) bytes
   unfolding outcomeOf packetOutcome
   outcome-head = rw (heads frameOf frame-ignores bytes)
 
-  pub result-head : resultOf s (packet time (take 28 bytes) out) ≡ resultOf s (packet time bytes out)
+  pub result-head : resultOf s (Call.Packet time) (take frameLength bytes) lent ≡ resultOf s (Call.Packet time) bytes lent
   unfolding resultOf refusalOf packetRefusal
   result-head = rw (heads readRefusal refusal-ignores bytes, outcome-head)

@@ -6,10 +6,13 @@ use mathlib.Core.Option.{Option, none, some}
 use lib.IntN.{ℤ, pos, negsuc}
 use lib.ListN.{length, replicate}
 use Rattle.basis.specs.Answers.{Report, refused, accepted, Accepted}
-use Rattle.basis.specs.Frame.{frameBytes, probe, announcement}
+use Rattle.basis.specs.Frame.{frameLength, frameBytes, probe, announcement}
 use Rattle.basis.specs.Clock.{ClockReport, clockOf}
 use Rattle.basis.specs.declared.Ipv4Address.{Ipv4Address}
 use Rattle.basis.specs.declared.HardwareAddress.{HardwareAddress}
+use Rattle.basis.specs.declared.Setup.{Setup}
+use Rattle.basis.specs.declared.Call.{Call}
+use Rattle.basis.specs.declared.Call.the-variants as Call
 use Rattle.basis.specs.declared.Time.{Time}
 use Rattle.basis.specs.declared.Moment.{Moment}
 use Rattle.basis.specs.declared.Moment.the-variants.{Never, At}
@@ -21,8 +24,7 @@ use Rattle.basis.specs.declared.Kind.the-variants.{Fresh, Taken, Nothing, Probe
 use Rattle.basis_engine.specs.Timing.{rfc5227, wait}
 use Rattle.basis_engine.specs.Slots.{freeRecord}
 use Rattle.basis_engine.specs.Interface.{zeros}
-use Rattle.basis_engine.specs.Calls.{Call, fresh, ask, tick, packet}
-use Rattle.basis_engine.specs.Machine.{resultOf}
+use Rattle.basis_engine.specs.Machine.{Result, resultOf, Invocation}
 use Rattle.basis_engine.specs.Claims.{Event, mark, aProbe, anAnnouncement, timesOf, Claim, claimsOf}
 
 -- What a case looks at: a wait, the clock's step with the time or the refusal, the kind of an answer, or a refusal.
@@ -44,10 +46,23 @@ abbrev pub seenAnswer : Report Accepted → Seen
 seenAnswer (refused n) = refusal n
 seenAnswer (accepted answer) = kind (answer .kind)
 
--- The machine's answers to calls, the first one first.
-unfoldable pub answers : Interface → List Call → List Seen
+-- A call that is lent nothing, and one that is lent a packet's bytes and a blank out buffer.
+abbrev pub bare : Call → Invocation
+bare call = record { call = call; bytes = []; lent = [] }
+
+abbrev pub blank : List ℕ
+blank = replicate frameLength 0
+
+abbrev pub lending : List ℕ → Call → Invocation
+lending bytes call = record { call = call; bytes = bytes; lent = blank }
+
+-- The machine's result, and its answers to calls, the first one first.
+abbrev pub resultAt : Interface → Invocation → Result
+resultAt s i = resultOf s (i .call) (i .bytes) (i .lent)
+
+unfoldable pub answers : Interface → List Invocation → List Seen
 answers s [] = []
-answers s (call ∷ later) = seenAnswer (resultOf s call .report) ∷ answers (resultOf s call .state) later
+answers s (i ∷ later) = seenAnswer (resultAt s i .report) ∷ answers (resultAt s i .state) later
 
 abbrev pub at : ℕ → Time
 at ms = record { 0 = ms }
@@ -55,6 +70,9 @@ at ms = record { 0 = ms }
 -- Our hardware address, another machine's, and 192.0.2.7.
 abbrev pub ours : HardwareAddress
 ours = record { 0 = 0x02000000000a }
+
+abbrev pub setup : Setup
+setup = record { hardware = ours }
 
 abbrev pub another : HardwareAddress
 another = record { 0 = 0x02000000000b }
@@ -66,7 +84,7 @@ ipv4 = record { 0 = 0xc0000207 }
 abbrev pub holding : ℕ → Stage → ℕ → Moment → Interface
 holding policy stage count asked =
     record {
-      hardware = ours;
+      setup = setup;
       latest = at 10_000;
       asked = asked;
       conflicts = count;
@@ -74,8 +92,8 @@ holding policy stage count asked =
     }
 
 -- Another machine's announcement of our address, at this time.
-abbrev pub conflictAt : ℕ → Call
-conflictAt ms = packet (at ms) (frameBytes (announcement another ipv4)) (replicate 28 0)
+abbrev pub conflictAt : ℕ → Invocation
+conflictAt ms = lending (frameBytes (announcement another ipv4)) (Call.Packet (at ms))
 
 pub record Case : Type 0 where
   pub rules : List Seen
@@ -84,9 +102,9 @@ pub record Case : Type 0 where
 abbrev pub cases : List Case
 cases =
     -- W1 "draw 1,000 gives wait 1,000, draw 1,001 gives 0"
-    record { rules = waits (wait 1_000) ∷ waits (wait 1_001) ∷ []; paper = waits 1_000 ∷ waits 0 ∷ [] }
+    record { rules = waits (wait rfc5227 1_000) ∷ waits (wait rfc5227 1_001) ∷ []; paper = waits 1_000 ∷ waits 0 ∷ [] }
     -- W2 "draw 4,294,967,295 gives 619"
-    ∷ record { rules = waits (wait 4_294_967_295) ∷ []; paper = waits 619 ∷ [] }
+    ∷ record { rules = waits (wait rfc5227 4_294_967_295) ∷ []; paper = waits 619 ∷ [] }
     -- W3 "latest 4,294,967,290, reading 4: step 10, time 4,294,967,300"
     ∷ record { rules = seenClock (clockOf 4_294_967_290 4) ∷ []; paper = widens (pos 10) 4_294_967_300 ∷ [] }
     -- W4 "latest 5, reading 3: step -2, refusal 4"
@@ -111,28 +129,28 @@ cases =
     -- W9 "count 10, request at 100,000: an ask at 159,999 is 12, at 160,000 taken"
     ∷ record {
       rules = answers (record {
-        hardware = ours;
+        setup = setup;
         latest = at 100_000;
         asked = At (at 100_000);
         conflicts = 10;
         records = freeRecord ∷ freeRecord ∷ freeRecord ∷ freeRecord ∷ [];
-      }) (ask (at 159_999) ipv4 1 0 ∷ ask (at 160_000) ipv4 1 0 ∷ []);
+      }) (bare (Call.Ask (at 159_999) ipv4 1 0) ∷ bare (Call.Ask (at 160_000) ipv4 1 0) ∷ []);
       paper = refusal 12 ∷ kind Taken ∷ [];
     }
     -- W10 "our own echoed probe: none"
     ∷ record {
-      rules = answers (holding 2 (Probing 1 (at 11_000)) 0 Never) (packet (at 10_000) (frameBytes (probe ours ipv4)) (replicate 28 0) ∷ []);
+      rules = answers (holding 2 (Probing 1 (at 11_000)) 0 Never) (lending (frameBytes (probe ours ipv4)) (Call.Packet (at 10_000)) ∷ []);
       paper = kind Nothing ∷ [];
     }
     -- W11 "another's probe for a settled address: none"
     ∷ record {
-      rules = answers (holding 2 (Settled Never) 0 Never) (packet (at 10_000) (frameBytes (probe another ipv4)) (replicate 28 0) ∷ []);
+      rules = answers (holding 2 (Settled Never) 0 Never) (lending (frameBytes (probe another ipv4)) (Call.Packet (at 10_000)) ∷ []);
       paper = kind Nothing ∷ [];
     }
     -- W12 "addresses 223.255.255.255 allowed, 224.0.0.0 refused with 8"
     ∷ record {
       rules = answers (holding 2 (Settled Never) 0 Never)
-          (ask (at 10_000) (record { 0 = 0xe0000000 }) 1 0 ∷ ask (at 10_000) (record { 0 = 0xdfffffff }) 1 0 ∷ []);
+          (bare (Call.Ask (at 10_000) (record { 0 = 0xe0000000 }) 1 0) ∷ bare (Call.Ask (at 10_000) (record { 0 = 0xdfffffff }) 1 0) ∷ []);
       paper = refusal 8 ∷ kind Taken ∷ [];
     }
     ∷ []
@@ -147,26 +165,23 @@ pub record Line : Type 0 where
   pub report : Report Accepted
   pub out : List ℕ
 
-unfoldable pub lines : Interface → List Call → List Line
+unfoldable pub lines : Interface → List Invocation → List Line
 lines s [] = []
-lines s (call ∷ later) = record { report = resultOf s call .report; out = resultOf s call .out } ∷ lines (resultOf s call .state) later
+lines s (i ∷ later) = record { report = resultAt s i .report; out = resultAt s i .out } ∷ lines (resultAt s i .state) later
 
 abbrev pub line : Kind → Option ℕ → Option ℕ → List ℕ → Line
 line did slot next out = record { report = accepted (record { kind = did; slot = slot; next = next }); out = out }
 
-abbrev pub blank : List ℕ
-blank = replicate 28 0
-
-abbrev pub wholeCase : List Call
+abbrev pub wholeCase : List Invocation
 wholeCase =
-    fresh ours
-    ∷ ask (at 100) ipv4 2 500
-    ∷ tick (at 599) 0 blank
-    ∷ tick (at 600) 0 blank
-    ∷ tick (at 1_600) 1_000 blank
-    ∷ tick (at 3_600) 5 blank
-    ∷ tick (at 5_600) 0 blank
-    ∷ tick (at 7_600) 0 blank
+    bare (Call.Fresh setup)
+    ∷ bare (Call.Ask (at 100) ipv4 2 500)
+    ∷ lending [] (Call.Tick (at 599) 0)
+    ∷ lending [] (Call.Tick (at 600) 0)
+    ∷ lending [] (Call.Tick (at 1_600) 1_000)
+    ∷ lending [] (Call.Tick (at 3_600) 5)
+    ∷ lending [] (Call.Tick (at 5_600) 0)
+    ∷ lending [] (Call.Tick (at 7_600) 0)
     ∷ []
 
 abbrev pub WholeCase : Type 0
@@ -183,11 +198,11 @@ WholeCase =
     ∷ []
 
 -- And what is seen of it from outside: one claim, with PROBE_NUM probes and ANNOUNCE_NUM announcements.
-unfoldable pub seenOf : Interface → List Call → List Event → List Event
+unfoldable pub seenOf : Interface → List Invocation → List Event → List Event
 seenOf s [] earlier = earlier
-seenOf s (call ∷ later) earlier =
-    seenOf (resultOf s call .state) later
-    (record { call = call; report = resultOf s call .report; out = resultOf s call .out } ∷ earlier)
+seenOf s (i ∷ later) earlier =
+    seenOf (resultAt s i .state) later
+    (record { call = i .call; bytes = i .bytes; report = resultAt s i .report; out = resultAt s i .out } ∷ earlier)
 
 abbrev pub wholeClaim : Claim
 wholeClaim =
@@ -205,6 +220,6 @@ wholeClaim =
     }
 
 pub record WholeClaim : Type 0 where
-  pub oneClaim : claimsOf ours (seenOf zeros wholeCase []) ≡ wholeClaim ∷ []
+  pub oneClaim : claimsOf setup (seenOf zeros wholeCase []) ≡ wholeClaim ∷ []
   pub allProbes : length (timesOf aProbe (wholeClaim .marks)) ≡ rfc5227 .probeNum
   pub allAnnouncements : length (timesOf anAnnouncement (wholeClaim .marks)) ≡ rfc5227 .announceNum

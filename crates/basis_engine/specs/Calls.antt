@@ -1,13 +1,13 @@
 -- Document 01, "Calls": what each does when it is accepted, for any state and any arguments.
 use Prim.Native.Nat.{ℕ, suc}
 use mathlib.Core.Bool.{cond}
-use mathlib.Core.List.{List, [], _∷_}
+use mathlib.Core.List.{List}
 use mathlib.Core.Option.{Option, none, some}
 use lib.Dec.{ltb}
 use lib.ListN.{set}
 use Rattle.basis.specs.Frame.{probe, announcement, frameOf}
 use Rattle.basis.specs.declared.Ipv4Address.{Ipv4Address}
-use Rattle.basis.specs.declared.HardwareAddress.{HardwareAddress}
+use Rattle.basis.specs.declared.Setup.{Setup}
 use Rattle.basis.specs.declared.Time.{Time}
 use Rattle.basis.specs.declared.Moment.the-variants.{Never, At}
 use Rattle.basis.specs.declared.Frame.{Frame}
@@ -18,19 +18,11 @@ use Rattle.basis.specs.declared.Interface.{Interface}
 use Rattle.basis.specs.declared.Resolution.{Resolution}
 use Rattle.basis.specs.declared.Kind.{Kind}
 use Rattle.basis.specs.declared.Kind.the-variants.{Fresh, Taken, Nothing, Probe, Announce, Dropped}
-use Rattle.basis_engine.specs.Timing.{rfc5227, wait, gap, after}
+use Rattle.basis_engine.specs.Timing.{Timing, timingOf, wait, gap, after}
 use Rattle.basis_engine.specs.Slots.{freeRecord, withStage, recordAt, putAt, lowest}
-use Rattle.basis_engine.specs.Interface.{isFree}
+use Rattle.basis_engine.specs.Interface.{senderOf, isFree, newInterface, changed}
 use Rattle.basis_engine.specs.Deadlines.{dueSlot}
 use Rattle.basis_engine.specs.Conflicts.{isConflict, countUp, resolution, recordAfter, defence, resolutionKind}
-
--- A call with its arguments. The last of a tick and of a packet is the out buffer as it was lent.
-pub data Call : Type 0 where
-  fresh : HardwareAddress → Call
-  ask : Time → Ipv4Address → ℕ → ℕ → Call
-  tick : Time → ℕ → List ℕ → Call
-  packet : Time → List ℕ → List ℕ → Call
-  drop : Time → ℕ → Call
 
 -- What an accepted call does: the kind and the slot that it reports, the new state, and the frame that it hands out.
 pub record Outcome : Type 0 where
@@ -41,102 +33,81 @@ pub record Outcome : Type 0 where
 
 -- The state with another latest time and other records.
 abbrev pub renewed : Interface → Time → List Record → Interface
-renewed s time records =
-    record {
-      hardware = s .hardware;
-      latest = time;
-      asked = s .asked;
-      conflicts = s .conflicts;
-      records = records;
-    }
+renewed s time records = changed s time (s .asked) (s .conflicts) records
 
 -- "Only the latest time changes": a tick with nothing due, and a packet that is no conflict.
 abbrev pub nothing : Interface → Time → Outcome
 nothing s time = record { kind = Nothing; slot = none; state = renewed s time (s .records); frame = none }
 
--- Fresh: "time 0, count 0, no request, four free slots."
-unfoldable pub freshOutcome : HardwareAddress → Outcome
-freshOutcome hardware =
-    record {
-      kind = Fresh;
-      slot = none;
-      state = record {
-        hardware = hardware;
-        latest = record { 0 = 0 };
-        asked = Never;
-        conflicts = 0;
-        records = freeRecord ∷ freeRecord ∷ freeRecord ∷ freeRecord ∷ [];
-      };
-      frame = none;
-    }
+-- Fresh: "It makes a new interface."
+unfoldable pub freshOutcome : Setup → Outcome
+freshOutcome setup = record { kind = Fresh; slot = none; state = newInterface setup; frame = none }
 
 -- Ask: "takes the lowest free slot, probing with none sent, deadline time + draw mod 1,001. This time becomes that of the
 -- latest request."
-abbrev pub newClaim : Time → Ipv4Address → ℕ → ℕ → Record
-newClaim time address policy draw =
-    record { address = address; policy = policy; stage = Probing 0 (after time (wait draw)) }
+abbrev pub newClaim : Timing → Time → Ipv4Address → ℕ → ℕ → Record
+newClaim row time address policy draw =
+    record { address = address; policy = policy; stage = Probing 0 (after time (wait row draw)) }
 
 unfoldable pub askOutcome : Interface → Time → Ipv4Address → ℕ → ℕ → Outcome
 askOutcome s time address policy draw =
     record {
       kind = Taken;
       slot = lowest isFree (s .records);
-      state = record {
-        hardware = s .hardware;
-        latest = time;
-        asked = At time;
-        conflicts = s .conflicts;
-        records = putAt (s .records) (lowest isFree (s .records)) (newClaim time address policy draw);
-      };
+      state = changed s time (At time) (s .conflicts)
+          (putAt (s .records) (lowest isFree (s .records)) (newClaim (timingOf (s .setup)) time address policy draw));
       frame = none;
     }
 
--- Tick, a due slot served. "First or second probe: next deadline time + gap. Third: time + 2,000. Then the first announcement,
--- deadline time + 2,000; then the second, settled. All are counted from the time of the call." A free or settled record has no
--- deadline and is never due.
-pub record Service : Type 0 where
+-- Tick, the frame that is due at a stage: probes, "then the first announcement", "then the second". A free or settled record has
+-- no deadline and is never due.
+pub record DueFrame : Type 0 where
   pub kind : Kind
-  pub stage : Stage
   pub frame : Option Frame
 
--- The delay after a probe, by how many are sent then, this one included.
-abbrev pub delay : ℕ → ℕ → ℕ
-delay sent draw = cond (ltb sent (rfc5227 .probeNum)) (gap draw) (rfc5227 .announceWait)
+abbrev pub dueFrameAt : Timing → Setup → Ipv4Address → Stage → DueFrame
+dueFrameAt row setup address Free = record { kind = Nothing; frame = none }
+dueFrameAt row setup address (Probing sent deadline) =
+    cond (ltb sent (row .probeNum))
+    (record { kind = Probe; frame = some (probe (senderOf setup) address) })
+    (record { kind = Announce; frame = some (announcement (senderOf setup) address) })
+dueFrameAt row setup address (Announced deadline conflict) =
+    record { kind = Announce; frame = some (announcement (senderOf setup) address) }
+dueFrameAt row setup address (Settled conflict) = record { kind = Nothing; frame = none }
 
-abbrev pub serviceAt : HardwareAddress → Ipv4Address → Time → ℕ → Stage → Service
-serviceAt own address time draw Free = record { kind = Nothing; stage = Free; frame = none }
-serviceAt own address time draw (Probing sent deadline) =
-    cond (ltb sent (rfc5227 .probeNum))
-    (record {
-      kind = Probe;
-      stage = Probing (suc sent) (after time (delay (suc sent) draw));
-      frame = some (probe own address);
-    })
-    (record {
-      kind = Announce;
-      stage = Announced (after time (rfc5227 .announceInterval)) Never;
-      frame = some (announcement own address);
-    })
-serviceAt own address time draw (Announced deadline conflict) =
-    record { kind = Announce; stage = Settled conflict; frame = some (announcement own address) }
-serviceAt own address time draw (Settled conflict) = record { kind = Nothing; stage = Settled conflict; frame = none }
+unfoldable pub dueFrame : Timing → Setup → Record → DueFrame
+dueFrame row setup r = dueFrameAt row setup (r .address) (r .stage)
 
-unfoldable pub service : HardwareAddress → Time → ℕ → Record → Service
-service own time draw r = serviceAt own (r .address) time draw (r .stage)
+-- Tick, what its sending leaves. "First or second probe: next deadline time + gap. Third: time + 2,000. Then the first
+-- announcement, deadline time + 2,000; then the second, settled. All are counted from the time of the call." The delay after a
+-- probe goes by how many are sent then, this one included.
+abbrev pub delay : Timing → ℕ → ℕ → ℕ
+delay row sent draw = cond (ltb sent (row .probeNum)) (gap row draw) (row .announceWait)
 
-abbrev pub servedAs : Interface → Time → ℕ → Record → Service → Outcome
-servedAs s time slot r served =
+unfoldable pub stageAfter : Timing → Time → ℕ → Stage → Stage
+stageAfter row time draw Free = Free
+stageAfter row time draw (Probing sent deadline) =
+    cond (ltb sent (row .probeNum))
+    (Probing (suc sent) (after time (delay row (suc sent) draw)))
+    (Announced (after time (row .announceInterval)) Never)
+stageAfter row time draw (Announced deadline conflict) = Settled conflict
+stageAfter row time draw (Settled conflict) = Settled conflict
+
+abbrev pub servedAs : Interface → Time → ℕ → Record → DueFrame → Stage → Outcome
+servedAs s time slot r due stage =
     record {
-      kind = served .kind;
+      kind = due .kind;
       slot = some slot;
-      state = renewed s time (set (s .records) slot (withStage r (served .stage)));
-      frame = served .frame;
+      state = renewed s time (set (s .records) slot (withStage r stage));
+      frame = due .frame;
     }
 
 abbrev pub serve : Interface → Time → ℕ → Option ℕ → Outcome
 serve s time draw none = nothing s time
 serve s time draw (some slot) =
-    servedAs s time slot (recordAt (s .records) slot) (service (s .hardware) time draw (recordAt (s .records) slot))
+    servedAs s time slot (recordAt (s .records) slot)
+    (dueFrame (timingOf (s .setup)) (s .setup) (recordAt (s .records) slot))
+    (stageAfter (timingOf (s .setup)) time draw (recordAt (s .records) slot .stage))
 
 -- Tick: "among deadlines not later than the time, serve the earliest, the lowest slot on a tie; one frame a call."
 unfoldable pub tickOutcome : Interface → Time → ℕ → Outcome
@@ -148,14 +119,9 @@ resolve s time slot r chosen =
     record {
       kind = resolutionKind chosen;
       slot = some slot;
-      state = record {
-        hardware = s .hardware;
-        latest = time;
-        asked = s .asked;
-        conflicts = countUp (s .conflicts);
-        records = set (s .records) slot (recordAfter chosen time r);
-      };
-      frame = defence (s .hardware) r chosen;
+      state = changed s time (s .asked) (countUp (timingOf (s .setup)) (s .conflicts))
+          (set (s .records) slot (recordAfter chosen time r));
+      frame = defence (s .setup) r chosen;
     }
 
 -- Packet, where no conflict is found: our own echo, another's probe for an address in use, traffic of others.
@@ -164,13 +130,13 @@ unconcerned s time f = nothing s time
 
 abbrev pub meet : Interface → Time → Frame → Option ℕ → Outcome
 meet s time f none = unconcerned s time f
-meet s time f (some slot) = resolve s time slot (recordAt (s .records) slot) (resolution time (recordAt (s .records) slot))
+meet s time f (some slot) =
+    resolve s time slot (recordAt (s .records) slot) (resolution (timingOf (s .setup)) time (recordAt (s .records) slot))
 
 -- Packet: "at most one record can be concerned" in a sound state (`one-concerned` in proofs/ConflictLaws.antt), so the lowest
 -- is that one.
 unfoldable pub packetOutcome : Interface → Time → List ℕ → Outcome
-packetOutcome s time bytes =
-    meet s time (frameOf bytes) (lowest (isConflict (s .hardware) (frameOf bytes)) (s .records))
+packetOutcome s time bytes = meet s time (frameOf bytes) (lowest (isConflict (s .setup) (frameOf bytes)) (s .records))
 
 -- Drop: "frees it."
 unfoldable pub dropOutcome : Interface → Time → ℕ → Outcome

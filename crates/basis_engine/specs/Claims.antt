@@ -6,24 +6,26 @@ use mathlib.Core.List.{List, [], _∷_, map}
 use mathlib.Core.Option.{Option, none, some}
 use lib.Dec.{leb, eqb}
 use lib.ListN.{length}
-use Rattle.basis.specs.Answers.{Report, refused, accepted, Accepted}
+use Rattle.basis.specs.Answers.{Report, refused, accepted, Accepted, hasFrame}
 use Rattle.basis.specs.Frame.{frameOf}
 use Rattle.basis.specs.declared.Ipv4Address.{Ipv4Address}
-use Rattle.basis.specs.declared.HardwareAddress.{HardwareAddress}
+use Rattle.basis.specs.declared.Setup.{Setup}
+use Rattle.basis.specs.declared.Call.{Call}
+use Rattle.basis.specs.declared.Call.the-variants as Call
 use Rattle.basis.specs.declared.Time.{Time}
 use Rattle.basis.specs.declared.Moment.{Moment}
 use Rattle.basis.specs.declared.Moment.the-variants.{Never, At}
 use Rattle.basis.specs.declared.Frame.{Frame}
 use Rattle.basis.specs.declared.Kind.{Kind}
 use Rattle.basis.specs.declared.Kind.the-variants.{Fresh, Taken, Nothing, Probe, Announce, Defend, Lost, Kept, Dropped}
-use Rattle.basis_engine.specs.Timing.{rfc5227, isWithin}
+use Rattle.basis_engine.specs.Timing.{Timing, timingOf, isWithin}
 use Rattle.basis_engine.specs.Slots.{isJust}
 use Rattle.basis_engine.specs.Interface.{isOurs}
-use Rattle.basis_engine.specs.Calls.{Call, fresh, ask, tick, packet, drop}
 
--- What is seen of a call: its arguments, its answer, and its out buffer afterwards.
+-- What is seen of a call: its arguments, a packet's bytes, its answer, and its out buffer afterwards.
 pub record Event : Type 0 where
   pub call : Call
+  pub bytes : List ℕ
   pub report : Report Accepted
   pub out : List ℕ
 
@@ -80,51 +82,51 @@ lastConflict marks = latest (timesOf aConflict marks)
 
 -- "In use it ends it under policy 1, and under policy 2 if this claim's previous conflict was less than 10,000 ms earlier:
 -- that is a surrender."
-abbrev pub isSurrender : ℕ → List Mark → Time → Bool
-isSurrender policy earlier t =
-    isInUse earlier && (eqb policy 1 || (eqb policy 2 && isWithin (rfc5227 .defendInterval) t (lastConflict earlier)))
+abbrev pub isSurrender : Timing → ℕ → List Mark → Time → Bool
+isSurrender row policy earlier t =
+    isInUse earlier && (eqb policy 1 || (eqb policy 2 && isWithin (row .defendInterval) t (lastConflict earlier)))
 
 -- Whether a claim stays open through a mark: "A conflict before use ends the claim." "A drop of its slot ends an open claim."
-abbrev pub isBorne : ℕ → List Mark → Time → Sign → Bool
-isBorne policy earlier t aProbe = true
-isBorne policy earlier t anAnnouncement = true
-isBorne policy earlier t aDefence = true
-isBorne policy earlier t aConflict = isInUse earlier && not (isSurrender policy earlier t)
-isBorne policy earlier t aDrop = false
+abbrev pub isBorne : Timing → ℕ → List Mark → Time → Sign → Bool
+isBorne row policy earlier t aProbe = true
+isBorne row policy earlier t anAnnouncement = true
+isBorne row policy earlier t aDefence = true
+isBorne row policy earlier t aConflict = isInUse earlier && not (isSurrender row policy earlier t)
+isBorne row policy earlier t aDrop = false
 
-unfoldable pub isOpenAfter : ℕ → List Mark → Bool
-isOpenAfter policy [] = true
-isOpenAfter policy (m ∷ earlier) = isBorne policy earlier (m .time) (m .sign) && isOpenAfter policy earlier
+unfoldable pub isOpenAfter : Timing → ℕ → List Mark → Bool
+isOpenAfter row policy [] = true
+isOpenAfter row policy (m ∷ earlier) = isBorne row policy earlier (m .time) (m .sign) && isOpenAfter row policy earlier
 
-abbrev pub isOpen : Claim → Bool
-isOpen c = isOpenAfter (c .policy) (c .marks)
+abbrev pub isOpen : Timing → Claim → Bool
+isOpen row c = isOpenAfter row (c .policy) (c .marks)
 
 -- "A packet is a conflict with a claim still open if its sender IP is the claim's address, and the claim isn't in use or the
 -- sender hardware isn't ours; or if the claim isn't in use and the packet has operation 1, sender IP zero, the claim's address
 -- as target IP, and sender hardware not ours."
-unfoldable pub isConflictWith : HardwareAddress → Frame → Claim → Bool
-isConflictWith own f c =
-    (eqb (f .sender .ip .0) (c .address .0) && (not (isInUse (c .marks)) || not (isOurs own (f .sender .hardware))))
+unfoldable pub isConflictWith : Setup → Frame → Claim → Bool
+isConflictWith setup f c =
+    (eqb (f .sender .ip .0) (c .address .0) && (not (isInUse (c .marks)) || not (isOurs setup (f .sender .hardware))))
     || (not (isInUse (c .marks))
     && eqb (f .operation) 1
     && eqb (f .sender .ip .0) 0
     && eqb (f .target .ip .0) (c .address .0)
-    && not (isOurs own (f .sender .hardware)))
+    && not (isOurs setup (f .sender .hardware)))
 
 -- A claim with one more mark.
 abbrev pub marked : Mark → Claim → Claim
 marked m c = record { address = c .address; policy = c .policy; slot = c .slot; marks = m ∷ c .marks }
 
 -- A claim with this mark, if it is open and the test holds; else as it was.
-abbrev pub markedIf : Bool → Mark → Claim → Claim
-markedIf test m c = cond (isOpen c && test) (marked m c) c
+abbrev pub markedIf : Timing → Bool → Mark → Claim → Claim
+markedIf row test m c = cond (isOpen row c && test) (marked m c) c
 
 -- A claim after a packet, and after a drop of a slot.
-abbrev pub struck : HardwareAddress → Time → Frame → Claim → Claim
-struck own t f c = markedIf (isConflictWith own f c) (mark aConflict t) c
+abbrev pub struck : Setup → Time → Frame → Claim → Claim
+struck setup t f c = markedIf (timingOf setup) (isConflictWith setup f c) (mark aConflict t) c
 
-abbrev pub released : Time → ℕ → Claim → Claim
-released t slot c = markedIf (isJust slot (c .slot)) (mark aDrop t) c
+abbrev pub released : Setup → Time → ℕ → Claim → Claim
+released setup t slot c = markedIf (timingOf setup) (isJust slot (c .slot)) (mark aDrop t) c
 
 -- "Each belongs to the latest claim on its target IP": the claims, the latest first, with this mark added to that one.
 abbrev pub isOn : Ipv4Address → Claim → Bool
@@ -134,19 +136,7 @@ unfoldable pub markedLatest : Ipv4Address → Mark → List Claim → List Claim
 markedLatest address m [] = []
 markedLatest address m (c ∷ earlier) = cond (isOn address c) (marked m c ∷ earlier) (c ∷ markedLatest address m earlier)
 
--- The kinds whose frame is in the out buffer. "A tick's frame is sent at the tick's time: a probe if its sender IP is zero, else
--- a claiming announcement."
-abbrev pub hasFrame : Kind → Bool
-hasFrame Fresh = false
-hasFrame Taken = false
-hasFrame Nothing = false
-hasFrame Probe = true
-hasFrame Announce = true
-hasFrame Defend = true
-hasFrame Lost = false
-hasFrame Kept = false
-hasFrame Dropped = false
-
+-- "A tick's frame is sent at the tick's time: a probe if its sender IP is zero, else a claiming announcement."
 abbrev pub ticked : Time → Frame → Mark
 ticked t f = mark (cond (eqb (f .sender .ip .0) 0) aProbe anAnnouncement) t
 
@@ -170,23 +160,23 @@ withDefence kind t f claims = cond (isDefence kind) (markedLatest (f .target .ip
 
 -- The claims after an accepted call, and after a history, the latest first. An accepted fresh begins another history, so it
 -- stands in none (`History` in Demand3.antt).
-unfoldable pub claimsAfter : HardwareAddress → Call → Accepted → List ℕ → List Claim → List Claim
-claimsAfter own (fresh hardware) answer out claims = []
-claimsAfter own (ask t address policy draw) answer out claims =
+unfoldable pub claimsAfter : Setup → Call → List ℕ → Accepted → List ℕ → List Claim → List Claim
+claimsAfter setup (Call.Fresh other) bytes answer out claims = []
+claimsAfter setup (Call.Ask t address policy draw) bytes answer out claims =
     record { address = address; policy = policy; slot = answer .slot; marks = [] } ∷ claims
-claimsAfter own (tick t draw lent) answer out claims = withTicked (answer .kind) t (frameOf out) claims
-claimsAfter own (packet t bytes lent) answer out claims =
-    withDefence (answer .kind) t (frameOf out) (map (struck own t (frameOf bytes)) claims)
-claimsAfter own (drop t slot) answer out claims = map (released t slot) claims
+claimsAfter setup (Call.Tick t draw) bytes answer out claims = withTicked (answer .kind) t (frameOf out) claims
+claimsAfter setup (Call.Packet t) bytes answer out claims =
+    withDefence (answer .kind) t (frameOf out) (map (struck setup t (frameOf bytes)) claims)
+claimsAfter setup (Call.Drop t slot) bytes answer out claims = map (released setup t slot) claims
 
 -- Refused calls count for nothing.
-abbrev pub claimsBy : HardwareAddress → Event → Report Accepted → List Claim → List Claim
-claimsBy own e (refused n) claims = claims
-claimsBy own e (accepted answer) claims = claimsAfter own (e .call) answer (e .out) claims
+abbrev pub claimsBy : Setup → Event → Report Accepted → List Claim → List Claim
+claimsBy setup e (refused n) claims = claims
+claimsBy setup e (accepted answer) claims = claimsAfter setup (e .call) (e .bytes) answer (e .out) claims
 
-unfoldable pub claimsOf : HardwareAddress → List Event → List Claim
-claimsOf own [] = []
-claimsOf own (e ∷ earlier) = claimsBy own e (e .report) (claimsOf own earlier)
+unfoldable pub claimsOf : Setup → List Event → List Claim
+claimsOf setup [] = []
+claimsOf setup (e ∷ earlier) = claimsBy setup e (e .report) (claimsOf setup earlier)
 
 -- The latest claim on an address.
 unfoldable pub latestOn : Ipv4Address → List Claim → Option Claim
@@ -199,15 +189,16 @@ unfoldable pub conflictCount : List Claim → ℕ
 conflictCount [] = 0
 conflictCount (c ∷ earlier) = length (timesOf aConflict (c .marks)) + conflictCount earlier
 
-abbrev pub asksBy : Call → Report Accepted → List Claim → List ℕ → List ℕ
-asksBy call (refused n) claims asks = asks
-asksBy (fresh hardware) (accepted answer) claims asks = []
-asksBy (ask t address policy draw) (accepted answer) claims asks =
-    cond (leb (rfc5227 .maxConflicts) (conflictCount claims)) (t .0 ∷ asks) asks
-asksBy (tick t draw lent) (accepted answer) claims asks = asks
-asksBy (packet t bytes lent) (accepted answer) claims asks = asks
-asksBy (drop t slot) (accepted answer) claims asks = asks
+abbrev pub asksBy : Timing → Call → Report Accepted → List Claim → List ℕ → List ℕ
+asksBy row call (refused n) claims asks = asks
+asksBy row (Call.Fresh setup) (accepted answer) claims asks = []
+asksBy row (Call.Ask t address policy draw) (accepted answer) claims asks =
+    cond (leb (row .maxConflicts) (conflictCount claims)) (t .0 ∷ asks) asks
+asksBy row (Call.Tick t draw) (accepted answer) claims asks = asks
+asksBy row (Call.Packet t) (accepted answer) claims asks = asks
+asksBy row (Call.Drop t slot) (accepted answer) claims asks = asks
 
-unfoldable pub asksAfterTenth : HardwareAddress → List Event → List ℕ
-asksAfterTenth own [] = []
-asksAfterTenth own (e ∷ earlier) = asksBy (e .call) (e .report) (claimsOf own earlier) (asksAfterTenth own earlier)
+unfoldable pub asksAfterTenth : Setup → List Event → List ℕ
+asksAfterTenth setup [] = []
+asksAfterTenth setup (e ∷ earlier) =
+    asksBy (timingOf setup) (e .call) (e .report) (claimsOf setup earlier) (asksAfterTenth setup earlier)

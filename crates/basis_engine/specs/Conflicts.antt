@@ -5,7 +5,7 @@ use mathlib.Core.Option.{Option, none, some}
 use lib.Dec.{eqb}
 use Rattle.basis.specs.Frame.{announcement}
 use Rattle.basis.specs.declared.Ipv4Address.{Ipv4Address}
-use Rattle.basis.specs.declared.HardwareAddress.{HardwareAddress}
+use Rattle.basis.specs.declared.Setup.{Setup}
 use Rattle.basis.specs.declared.Time.{Time}
 use Rattle.basis.specs.declared.Moment.{Moment}
 use Rattle.basis.specs.declared.Moment.the-variants.{At}
@@ -17,9 +17,9 @@ use Rattle.basis.specs.declared.Resolution.{Resolution}
 use Rattle.basis.specs.declared.Resolution.the-variants.{Lose, Defend, Keep}
 use Rattle.basis.specs.declared.Kind.{Kind}
 use Rattle.basis.specs.declared.Kind.the-variants as Kind
-use Rattle.basis_engine.specs.Timing.{rfc5227, isWithin}
+use Rattle.basis_engine.specs.Timing.{Timing, isWithin}
 use Rattle.basis_engine.specs.Slots.{freeRecord, withStage}
-use Rattle.basis_engine.specs.Interface.{isOurs}
+use Rattle.basis_engine.specs.Interface.{senderOf, isOurs}
 
 -- What a packet says of an address: that it comes from there; or, "operation 1, sender IP zero, target IP its address", that
 -- its sender probes for it.
@@ -34,37 +34,37 @@ probesFor f address = eqb (f .operation) 1 && eqb (f .sender .ip .0) 0 && eqb (f
 -- - it's probing, operation 1, sender IP zero, target IP its address, sender hardware not ours; or
 -- - it's usable, sender IP its address, sender hardware not ours."
 -- "A deadline that has passed without a tick changes nothing here: the stage decides."
-abbrev pub isConflictAt : HardwareAddress → Frame → Ipv4Address → Stage → Bool
-isConflictAt own f address Free = false
-isConflictAt own f address (Probing sent deadline) =
-    isFrom f address || (probesFor f address && not (isOurs own (f .sender .hardware)))
-isConflictAt own f address (Announced deadline conflict) = isFrom f address && not (isOurs own (f .sender .hardware))
-isConflictAt own f address (Settled conflict) = isFrom f address && not (isOurs own (f .sender .hardware))
+abbrev pub isConflictAt : Setup → Frame → Ipv4Address → Stage → Bool
+isConflictAt setup f address Free = false
+isConflictAt setup f address (Probing sent deadline) =
+    isFrom f address || (probesFor f address && not (isOurs setup (f .sender .hardware)))
+isConflictAt setup f address (Announced deadline conflict) = isFrom f address && not (isOurs setup (f .sender .hardware))
+isConflictAt setup f address (Settled conflict) = isFrom f address && not (isOurs setup (f .sender .hardware))
 
-abbrev pub isConflict : HardwareAddress → Frame → Record → Bool
-isConflict own f r = isConflictAt own f (r .address) (r .stage)
+abbrev pub isConflict : Setup → Frame → Record → Bool
+isConflict setup f r = isConflictAt setup f (r .address) (r .stage)
 
 -- "A conflict adds one to the count unless it is 10."
-abbrev pub countUp : ℕ → ℕ
-countUp count = cond (eqb count (rfc5227 .maxConflicts)) count (suc count)
+abbrev pub countUp : Timing → ℕ → ℕ
+countUp row count = cond (eqb count (row .maxConflicts)) count (suc count)
 
 -- "A usable one goes by policy (section 2.4): 1, lost; 2, defend if no conflict was seen before in this use or the last seen was 10,000 ms
 -- ago or more, else lost; 3, the same but 'kept' without a frame in place of lost."
-abbrev pub byPolicy : ℕ → Time → Moment → Resolution
-byPolicy policy now last =
+abbrev pub byPolicy : Timing → ℕ → Time → Moment → Resolution
+byPolicy row policy now last =
     cond (eqb policy 1) Lose
-    (cond (not (isWithin (rfc5227 .defendInterval) now last)) Defend
+    (cond (not (isWithin (row .defendInterval) now last)) Defend
     (cond (eqb policy 2) Lose Keep))
 
 -- "A probing record is lost." No packet is a conflict with a free one.
-abbrev pub resolutionAt : ℕ → Time → Stage → Resolution
-resolutionAt policy now Free = Keep
-resolutionAt policy now (Probing sent deadline) = Lose
-resolutionAt policy now (Announced deadline conflict) = byPolicy policy now conflict
-resolutionAt policy now (Settled conflict) = byPolicy policy now conflict
+abbrev pub resolutionAt : Timing → ℕ → Time → Stage → Resolution
+resolutionAt row policy now Free = Keep
+resolutionAt row policy now (Probing sent deadline) = Lose
+resolutionAt row policy now (Announced deadline conflict) = byPolicy row policy now conflict
+resolutionAt row policy now (Settled conflict) = byPolicy row policy now conflict
 
-unfoldable pub resolution : Time → Record → Resolution
-resolution now r = resolutionAt (r .policy) now (r .stage)
+unfoldable pub resolution : Timing → Time → Record → Resolution
+resolution row now r = resolutionAt row (r .policy) now (r .stage)
 
 -- "Each conflict seen, answered or not, becomes the last one seen."
 abbrev pub seenAt : Time → Stage → Stage
@@ -79,10 +79,10 @@ recordAfter Lose now r = freeRecord
 recordAfter Defend now r = withStage r (seenAt now (r .stage))
 recordAfter Keep now r = withStage r (seenAt now (r .stage))
 
-abbrev pub defence : HardwareAddress → Record → Resolution → Option Frame
-defence own r Lose = none
-defence own r Defend = some (announcement own (r .address))
-defence own r Keep = none
+abbrev pub defence : Setup → Record → Resolution → Option Frame
+defence setup r Lose = none
+defence setup r Defend = some (announcement (senderOf setup) (r .address))
+defence setup r Keep = none
 
 abbrev pub resolutionKind : Resolution → Kind
 resolutionKind Lose = Kind.Lost

@@ -9,21 +9,25 @@ use lib.Dec.{leb}
 use lib.ListN.{length}
 use Rattle.basis.specs.Answers.{Report, refused, accepted, Accepted, answerReport}
 use Rattle.basis.specs.declared.Ipv4Address.{Ipv4Address}
-use Rattle.basis.specs.declared.HardwareAddress.{HardwareAddress}
+use Rattle.basis.specs.declared.Setup.{Setup}
+use Rattle.basis.specs.declared.Call.{Call}
+use Rattle.basis.specs.declared.Call.the-variants as Call
 use Rattle.basis.specs.declared.Time.{Time}
 use Rattle.basis.specs.declared.Record.{Record}
 use Rattle.basis.specs.declared.Interface.{Interface}
 use Rattle.basis.specs.declared.Answer.{Answer}
-use Rattle.basis_engine.specs.Timing.{rfc5227}
+use Rattle.basis_engine.specs.Timing.{Timing, timingOf}
 use Rattle.basis_engine.specs.Slots.{any}
-use Rattle.basis_engine.specs.Interface.{holds, isUsableStage}
-use Rattle.basis_engine.specs.Calls.{Call, fresh, ask, tick, packet, drop, freshOutcome}
-use Rattle.basis_engine.specs.Machine.{Result, resultOf, Promised}
+use Rattle.basis_engine.specs.Interface.{holds, isUsableStage, newInterface}
+use Rattle.basis_engine.specs.Machine.{Result, resultOf, Invocation, Promised}
 use Rattle.basis_engine.specs.Claims.{Event, Mark, mark, aProbe, anAnnouncement, aDefence, aConflict, timesOf, Claim, isOpen, claimsOf, latestOn, asksAfterTenth}
 
--- A call of a history: its arguments, its answer, the state that it handed back, and its out buffer afterwards.
+-- A call of a history: its arguments, the bytes of a packet and the out buffer that were lent to it, its answer, the state that it
+-- handed back, and its out buffer afterwards.
 pub record Exchange : Type 0 where
   pub call : Call
+  pub bytes : List ℕ
+  pub lent : List ℕ
   pub answer : Answer
   pub state : Interface
   pub out : List ℕ
@@ -39,11 +43,11 @@ isAccepted (refused n) = false
 isAccepted (accepted answer) = true
 
 abbrev pub isFresh : Call → Bool
-isFresh (fresh hardware) = true
-isFresh (ask time address policy draw) = false
-isFresh (tick time draw out) = false
-isFresh (packet time bytes out) = false
-isFresh (drop time slot) = false
+isFresh (Call.Fresh setup) = true
+isFresh (Call.Ask time address policy draw) = false
+isFresh (Call.Tick time draw) = false
+isFresh (Call.Packet time) = false
+isFresh (Call.Drop time slot) = false
 
 abbrev pub isNextFresh : Exchange → Bool
 isNextFresh exchange = isFresh (exchange .call) && isAccepted (answerReport (exchange .answer))
@@ -52,13 +56,14 @@ isNextFresh exchange = isFresh (exchange .call) && isAccepted (answerReport (exc
 unfoldable pub History : Interface → List Exchange → Type 0
 History start [] = Unit {0}
 History start (exchange ∷ earlier) =
-    Promised (stateAfter start earlier) (exchange .call) (exchange .answer) (exchange .state) (exchange .out)
+    Promised (stateAfter start earlier) (exchange .call) (exchange .bytes) (exchange .lent) (exchange .answer) (exchange .state) (exchange .out)
     × (isNextFresh exchange ≡ false)
     × History start earlier
 
 -- What is seen of a history from outside.
 abbrev pub eventOf : Exchange → Event
-eventOf exchange = record { call = exchange .call; report = answerReport (exchange .answer); out = exchange .out }
+eventOf exchange =
+    record { call = exchange .call; bytes = exchange .bytes; report = answerReport (exchange .answer); out = exchange .out }
 
 abbrev pub events : List Exchange → List Event
 events exchanges = map eventOf exchanges
@@ -68,10 +73,14 @@ abbrev pub stateLeft : Interface → List Result → Interface
 stateLeft start [] = start
 stateLeft start (result ∷ earlier) = result .state
 
-unfoldable pub plainMachine : Interface → List Call → List Result
+unfoldable pub plainMachine : Interface → List Invocation → List Result
 plainMachine start [] = []
-plainMachine start (call ∷ earlier) =
-    resultOf (stateLeft start (plainMachine start earlier)) call ∷ plainMachine start earlier
+plainMachine start (invocation ∷ earlier) =
+    resultOf (stateLeft start (plainMachine start earlier)) (invocation .call) (invocation .bytes) (invocation .lent)
+    ∷ plainMachine start earlier
+
+abbrev pub invocationIn : Exchange → Invocation
+invocationIn exchange = record { call = exchange .call; bytes = exchange .bytes; lent = exchange .lent }
 
 abbrev pub resultIn : Exchange → Result
 resultIn exchange = record { report = answerReport (exchange .answer); state = exchange .state; out = exchange .out }
@@ -96,22 +105,22 @@ IsAfter ms (latest ∷ earlier) time = latest + ms ≤ time
 
 -- A claim that went through: three probes, each at least 1,000 ms after the one before, then an announcement at least 2,000 ms
 -- after the third, with no conflict over it between that ask and that announcement, and since the ask no drop or surrender of it.
-pub record WentThrough (c : Claim) : Type 0 where
+pub record WentThrough (row : Timing) (c : Claim) : Type 0 where
   pub since : List Mark
   pub announcedAt : Time
   pub before : List Mark
   pub split : c .marks ≡ since ++ (mark anAnnouncement announcedAt ∷ before)
-  pub threeProbes : length (timesOf aProbe before) ≡ rfc5227 .probeNum
-  pub probesSpaced : Spaced (rfc5227 .probeMin) (timesOf aProbe before)
-  pub announcedAfter : IsAfter (rfc5227 .announceWait) (timesOf aProbe before) (announcedAt .0)
+  pub threeProbes : length (timesOf aProbe before) ≡ row .probeNum
+  pub probesSpaced : Spaced (row .probeMin) (timesOf aProbe before)
+  pub announcedAfter : IsAfter (row .announceWait) (timesOf aProbe before) (announcedAt .0)
   pub undisturbed : timesOf aConflict before ≡ []
   -- Open: with no conflict before use, this says that there was no drop and no surrender.
-  pub notGivenUp : isOpen c ≡ true
+  pub notGivenUp : isOpen row c ≡ true
 
 -- There was an accepted ask on the address, and the latest one went through.
-abbrev pub LatestWentThrough : Option Claim → Type 0
-LatestWentThrough none = ⊥
-LatestWentThrough (some c) = WentThrough c
+abbrev pub LatestWentThrough : Timing → Option Claim → Type 0
+LatestWentThrough row none = ⊥
+LatestWentThrough row (some c) = WentThrough row c
 
 -- What holds of each element of a list.
 abbrev pub Each : {A : Type 0} → (A → Type 0) → List A → Type 0
@@ -127,12 +136,12 @@ abbrev pub AtMostOneEach : ℕ → List ℕ → Type 0
 AtMostOneEach ms times = (a b : ℕ) → a ≤ b → countFrom a b times ≤ (b - a) / ms + 1
 
 -- An accepted ask sends at most 3 probes and 2 claiming announcements.
-abbrev pub SendsFew : Claim → Type 0
-SendsFew c = (length (timesOf aProbe (c .marks)) ≤ rfc5227 .probeNum) × (length (timesOf anAnnouncement (c .marks)) ≤ rfc5227 .announceNum)
+abbrev pub SendsFew : Timing → Claim → Type 0
+SendsFew row c = (length (timesOf aProbe (c .marks)) ≤ row .probeNum) × (length (timesOf anAnnouncement (c .marks)) ≤ row .announceNum)
 
 -- From any a to any b not before it, ends included, it sends at most (b - a) / 10,000 rounded down, plus 1, defences.
-abbrev pub DefendsSeldom : Claim → Type 0
-DefendsSeldom c = AtMostOneEach (rfc5227 .defendInterval) (timesOf aDefence (c .marks))
+abbrev pub DefendsSeldom : Timing → Claim → Type 0
+DefendsSeldom row c = AtMostOneEach (row .defendInterval) (timesOf aDefence (c .marks))
 
 -- The history without its refused calls.
 unfoldable pub acceptedOnly : List Exchange → List Exchange
@@ -141,33 +150,33 @@ acceptedOnly (exchange ∷ earlier) =
     cond (isAccepted (answerReport (exchange .answer))) (exchange ∷ acceptedOnly earlier) (acceptedOnly earlier)
 
 -- That refused calls count for nothing: without them it is a history too, with the same state, claims and asks.
-pub record CountForNothing (own : HardwareAddress) (start : Interface) (exchanges others : List Exchange) : Type 0 where
+pub record CountForNothing (setup : Setup) (start : Interface) (exchanges others : List Exchange) : Type 0 where
   pub isHistory : History start others
   pub sameState : stateAfter start others ≡ stateAfter start exchanges
-  pub sameClaims : claimsOf own (events others) ≡ claimsOf own (events exchanges)
-  pub sameAsks : asksAfterTenth own (events others) ≡ asksAfterTenth own (events exchanges)
+  pub sameClaims : claimsOf setup (events others) ≡ claimsOf setup (events exchanges)
+  pub sameAsks : asksAfterTenth setup (events others) ≡ asksAfterTenth setup (events exchanges)
 
 -- "Demand 3 is a single claim about the whole history."
-pub record Demand3 (own : HardwareAddress) (start : Interface) (exchanges : List Exchange) : Type 0 where
+pub record Demand3 (setup : Setup) (start : Interface) (exchanges : List Exchange) : Type 0 where
   -- (a) At fresh the state, and at each call the refusal number or whole answer, the new state and every lent byte are the
   -- plain machine's.
-  pub begunAsTheMachine : start ≡ freshOutcome own .state
-  pub asTheMachine : map resultIn exchanges ≡ plainMachine (freshOutcome own .state) (map (λ (exchange : Exchange). exchange .call) exchanges)
+  pub begunAsTheMachine : start ≡ newInterface setup
+  pub asTheMachine : map resultIn exchanges ≡ plainMachine (newInterface setup) (map invocationIn exchanges)
   -- (b) An address is usable exactly if its latest accepted ask went through and was not given up since.
   pub usableExactlyIf : (address : Ipv4Address) →
-      (isUsable address (stateAfter start exchanges) ≡ true) ↔ LatestWentThrough (latestOn address (claimsOf own (events exchanges)))
+      (isUsable address (stateAfter start exchanges) ≡ true) ↔ LatestWentThrough (timingOf setup) (latestOn address (claimsOf setup (events exchanges)))
   -- (c) At most 3 probes and 2 claiming announcements an ask.
-  pub fewFrames : Each SendsFew (claimsOf own (events exchanges))
+  pub fewFrames : Each (SendsFew (timingOf setup)) (claimsOf setup (events exchanges))
   -- (d) From a to b at most (b - a) / 10,000 rounded down, plus 1, defences an ask.
-  pub fewDefences : Each DefendsSeldom (claimsOf own (events exchanges))
+  pub fewDefences : Each (DefendsSeldom (timingOf setup)) (claimsOf setup (events exchanges))
   -- (e) After the tenth conflict, from a to b at most (b - a) / 60,000 rounded down, plus 1, asks.
-  pub fewAsks : AtMostOneEach (rfc5227 .rateLimitInterval) (asksAfterTenth own (events exchanges))
+  pub fewAsks : AtMostOneEach (timingOf setup .rateLimitInterval) (asksAfterTenth setup (events exchanges))
   -- (f) Refused calls count for nothing.
-  pub refusedCountForNothing : CountForNothing own start exchanges (acceptedOnly exchanges)
+  pub refusedCountForNothing : CountForNothing setup start exchanges (acceptedOnly exchanges)
 
 -- The theorem: from every accepted fresh, over every history.
 abbrev pub Theorem : Type 0
 Theorem =
-    (own : HardwareAddress) (before start : Interface) (answer : Answer) →
-    Promised before (fresh own) answer start [] → isAccepted (answerReport answer) ≡ true →
-    (exchanges : List Exchange) → History start exchanges → Demand3 own start exchanges
+    (setup : Setup) (before start : Interface) (answer : Answer) →
+    Promised before (Call.Fresh setup) [] [] answer start [] → isAccepted (answerReport answer) ≡ true →
+    (exchanges : List Exchange) → History start exchanges → Demand3 setup start exchanges

@@ -7,6 +7,7 @@ use Rattle.basis.specs.Times.{lastTime}
 use Rattle.basis.specs.Addresses.{isHardware}
 use Rattle.basis.specs.declared.Ipv4Address.{Ipv4Address}
 use Rattle.basis.specs.declared.HardwareAddress.{HardwareAddress}
+use Rattle.basis.specs.declared.Setup.{Setup}
 use Rattle.basis.specs.declared.Time.{Time}
 use Rattle.basis.specs.declared.Moment.{Moment}
 use Rattle.basis.specs.declared.Moment.the-variants.{Never, At}
@@ -14,7 +15,7 @@ use Rattle.basis.specs.declared.Stage.{Stage}
 use Rattle.basis.specs.declared.Stage.the-variants.{Free, Probing, Announced, Settled}
 use Rattle.basis.specs.declared.Record.{Record}
 use Rattle.basis.specs.declared.Interface.{Interface}
-use Rattle.basis_engine.specs.Timing.{rfc5227}
+use Rattle.basis_engine.specs.Timing.{Timing, timingOf}
 use Rattle.basis_engine.specs.Slots.{freeRecord, any, all}
 
 -- "The own hardware address isn't zero and its first byte is even." A number of 2^48 or more is no address
@@ -22,9 +23,16 @@ use Rattle.basis_engine.specs.Slots.{freeRecord, any, all}
 unfoldable pub isOwnHardware : HardwareAddress → Bool
 isOwnHardware address = isHardware address && not (eqb (address .0) 0) && eqb (address .0 / 2 ^ 40 % 2) 0
 
--- Whether a hardware address is ours: "its own hardware address (one)".
-abbrev pub isOurs : HardwareAddress → HardwareAddress → Bool
-isOurs own other = eqb (other .0) (own .0)
+-- What can be chosen at fresh.
+abbrev pub isSoundSetup : Setup → Bool
+isSoundSetup setup = isOwnHardware (setup .hardware)
+
+-- "Its own hardware address (one)": the sender of our frames, and whether a hardware address is ours.
+abbrev pub senderOf : Setup → HardwareAddress
+senderOf setup = setup .hardware
+
+abbrev pub isOurs : Setup → HardwareAddress → Bool
+isOurs setup other = eqb (other .0) (setup .hardware .0)
 
 -- "An allowed address has a first byte from 1 to 223, 127 excepted."
 abbrev pub firstByte : Ipv4Address → ℕ
@@ -73,14 +81,15 @@ abbrev pub isNear : Time → Time → Bool
 isNear latest deadline = leb (deadline .0) (latest .0 + longestDelay)
 
 -- What a sound state asks of one stage, "no record has more than 3 probes sent" included, and of one record.
-unfoldable pub isSoundStage : Time → Stage → Bool
-isSoundStage latest Free = true
-isSoundStage latest (Probing sent deadline) = leb sent (rfc5227 .probeNum) && isNear latest deadline
-isSoundStage latest (Announced deadline conflict) = isNear latest deadline && isPast latest conflict
-isSoundStage latest (Settled conflict) = isPast latest conflict
+unfoldable pub isSoundStage : Timing → Time → Stage → Bool
+isSoundStage row latest Free = true
+isSoundStage row latest (Probing sent deadline) = leb sent (row .probeNum) && isNear latest deadline
+isSoundStage row latest (Announced deadline conflict) = isNear latest deadline && isPast latest conflict
+isSoundStage row latest (Settled conflict) = isPast latest conflict
 
-unfoldable pub isSoundRecord : Time → Record → Bool
-isSoundRecord latest r = isFree r || (isSoundStage latest (r .stage) && isAllowed (r .address) && isPolicy (r .policy))
+unfoldable pub isSoundRecord : Timing → Time → Record → Bool
+isSoundRecord row latest r =
+    isFree r || (isSoundStage row latest (r .stage) && isAllowed (r .address) && isPolicy (r .policy))
 
 -- "No address is held twice."
 abbrev pub isAlone : Record → List Record → Bool
@@ -93,20 +102,30 @@ holdsNoneTwice (r ∷ records) = isAlone r records && holdsNoneTwice records
 -- "A state is sound if".
 unfoldable pub isSound : Interface → Bool
 isSound s =
-    isOwnHardware (s .hardware)
+    isSoundSetup (s .setup)
     && leb (s .latest .0) lastTime
-    && leb (s .conflicts) (rfc5227 .maxConflicts)
+    && leb (s .conflicts) (timingOf (s .setup) .maxConflicts)
     && isPast (s .latest) (s .asked)
-    && all (isSoundRecord (s .latest)) (s .records)
+    && all (isSoundRecord (timingOf (s .setup)) (s .latest)) (s .records)
     && holdsNoneTwice (s .records)
 
--- "Before the first `fresh` is accepted the state is all zeros": it is not sound.
-abbrev pub zeros : Interface
-zeros =
+-- A new interface: "time 0, count 0, no request, four free slots."
+abbrev pub newInterface : Setup → Interface
+newInterface setup =
     record {
-      hardware = record { 0 = 0 };
+      setup = setup;
       latest = record { 0 = 0 };
       asked = Never;
       conflicts = 0;
       records = freeRecord ∷ freeRecord ∷ freeRecord ∷ freeRecord ∷ [];
     }
+
+-- "Before the first `fresh` is accepted the state is all zeros": it is not sound.
+abbrev pub zeros : Interface
+zeros = newInterface (record { hardware = record { 0 = 0 } })
+
+-- The state after an accepted call but fresh, with this latest time, time of the latest ask, count and records. What was chosen
+-- at fresh is kept.
+abbrev pub changed : Interface → Time → Moment → ℕ → List Record → Interface
+changed s latest asked conflicts records =
+    record { setup = s .setup; latest = latest; asked = asked; conflicts = conflicts; records = records }

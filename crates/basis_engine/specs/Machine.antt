@@ -2,7 +2,7 @@
 -- it leaves, for any state and any call. The promise of the public calls is that they give just that.
 use Prim.Native.Nat.{ℕ}
 use mathlib.Core.Path.{_≡_}
-use mathlib.Core.List.{List, []}
+use mathlib.Core.List.{List}
 use mathlib.Core.Option.{Option, none, some}
 use lib.ListN.{length}
 use Rattle.basis.specs.Answers.{Report, Accepted, reported, leaves, answerReport}
@@ -10,32 +10,27 @@ use Rattle.basis.specs.Frame.{framePut}
 use Rattle.basis.specs.declared.Frame.{Frame}
 use Rattle.basis.specs.declared.Interface.{Interface}
 use Rattle.basis.specs.declared.Answer.{Answer}
+use Rattle.basis.specs.declared.Call.{Call}
+use Rattle.basis.specs.declared.Call.the-variants as Call
 use Rattle.basis_engine.specs.Deadlines.{smallestDeadline}
-use Rattle.basis_engine.specs.Calls.{Call, fresh, ask, tick, packet, drop, Outcome, freshOutcome, askOutcome, tickOutcome, packetOutcome, dropOutcome}
+use Rattle.basis_engine.specs.Calls.{Outcome, freshOutcome, askOutcome, tickOutcome, packetOutcome, dropOutcome}
 use Rattle.basis_engine.specs.Refusals.{freshRefusal, askRefusal, tickRefusal, packetRefusal, dropRefusal}
 
--- A call's refusal, or none, and what it does if there is none.
-unfoldable pub refusalOf : Interface → Call → Option ℕ
-refusalOf s (fresh hardware) = freshRefusal hardware
-refusalOf s (ask time address policy draw) = askRefusal s time address policy
-refusalOf s (tick time draw out) = tickRefusal s time (length out)
-refusalOf s (packet time bytes out) = packetRefusal s time bytes (length out)
-refusalOf s (drop time slot) = dropRefusal s time slot
+-- A call's refusal, or none, and what it does if there is none. Of what is lent, the bytes are a packet's; a tick and a packet
+-- look at the out buffer's length.
+unfoldable pub refusalOf : Interface → Call → List ℕ → ℕ → Option ℕ
+refusalOf s (Call.Fresh setup) bytes room = freshRefusal setup
+refusalOf s (Call.Ask time address policy draw) bytes room = askRefusal s time address policy draw
+refusalOf s (Call.Tick time draw) bytes room = tickRefusal s time draw room
+refusalOf s (Call.Packet time) bytes room = packetRefusal s time bytes room
+refusalOf s (Call.Drop time slot) bytes room = dropRefusal s time slot
 
-unfoldable pub outcomeOf : Interface → Call → Outcome
-outcomeOf s (fresh hardware) = freshOutcome hardware
-outcomeOf s (ask time address policy draw) = askOutcome s time address policy draw
-outcomeOf s (tick time draw out) = tickOutcome s time draw
-outcomeOf s (packet time bytes out) = packetOutcome s time bytes
-outcomeOf s (drop time slot) = dropOutcome s time slot
-
--- The out buffer as it was lent: none is lent to fresh, ask and drop.
-abbrev pub lent : Call → List ℕ
-lent (fresh hardware) = []
-lent (ask time address policy draw) = []
-lent (tick time draw out) = out
-lent (packet time bytes out) = out
-lent (drop time slot) = []
+unfoldable pub outcomeOf : Interface → Call → List ℕ → Outcome
+outcomeOf s (Call.Fresh setup) bytes = freshOutcome setup
+outcomeOf s (Call.Ask time address policy draw) bytes = askOutcome s time address policy draw
+outcomeOf s (Call.Tick time draw) bytes = tickOutcome s time draw
+outcomeOf s (Call.Packet time) bytes = packetOutcome s time bytes
+outcomeOf s (Call.Drop time slot) bytes = dropOutcome s time slot
 
 -- "A frame goes to the first 28 bytes of the out buffer, the rest untouched; without a frame all of it is untouched."
 abbrev pub handedOut : Option Frame → List ℕ → List ℕ
@@ -63,12 +58,19 @@ resultAs refusal s out outcome =
       out = leaves refusal out (handedOut (outcome .frame) out);
     }
 
-unfoldable pub resultOf : Interface → Call → Result
-resultOf s call = resultAs (refusalOf s call) s (lent call) (outcomeOf s call)
+-- Of a call on this state, lent these bytes and this out buffer.
+unfoldable pub resultOf : Interface → Call → List ℕ → List ℕ → Result
+resultOf s call bytes lent = resultAs (refusalOf s call bytes (length lent)) s lent (outcomeOf s call bytes)
 
--- The promise of fresh, ask, tick, packet and drop: handed this state and these arguments, the answer, the state handed back
--- and the out buffer afterwards are the machine's.
-pub record Promised (before : Interface) (call : Call) (answer : Answer) (after : Interface) (out : List ℕ) : Type 0 where
-  pub answered : answerReport answer ≡ resultOf before call .report
-  pub handedBack : after ≡ resultOf before call .state
-  pub written : out ≡ resultOf before call .out
+-- A call with what is lent to it: a packet's bytes, and the out buffer as it is before.
+pub record Invocation : Type 0 where
+  pub call : Call
+  pub bytes : List ℕ
+  pub lent : List ℕ
+
+-- The promise of fresh, ask, tick, packet and drop: handed this state, these arguments and this memory, the answer, the state
+-- handed back and the out buffer afterwards are the machine's. Fresh, ask and drop are lent nothing.
+pub record Promised (before : Interface) (call : Call) (bytes lent : List ℕ) (answer : Answer) (after : Interface) (out : List ℕ) : Type 0 where
+  pub answered : answerReport answer ≡ resultOf before call bytes lent .report
+  pub handedBack : after ≡ resultOf before call bytes lent .state
+  pub written : out ≡ resultOf before call bytes lent .out

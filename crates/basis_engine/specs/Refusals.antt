@@ -6,14 +6,14 @@ use mathlib.Core.Option.{Option, none}
 use lib.Dec.{ltb, eqb}
 use Rattle.basis.specs.Times.{lastTime}
 use Rattle.basis.specs.Answers.{_if_else_}
-use Rattle.basis.specs.Frame.{readRefusal}
+use Rattle.basis.specs.Frame.{frameLength, readRefusal}
 use Rattle.basis.specs.declared.Ipv4Address.{Ipv4Address}
-use Rattle.basis.specs.declared.HardwareAddress.{HardwareAddress}
+use Rattle.basis.specs.declared.Setup.{Setup}
 use Rattle.basis.specs.declared.Time.{Time}
 use Rattle.basis.specs.declared.Interface.{Interface}
-use Rattle.basis_engine.specs.Timing.{rfc5227, isWithin}
+use Rattle.basis_engine.specs.Timing.{timingOf, isWithin}
 use Rattle.basis_engine.specs.Slots.{recordAt, lowest, isNone}
-use Rattle.basis_engine.specs.Interface.{isOwnHardware, isAllowed, isPolicy, isFree, isHeld, isSound}
+use Rattle.basis_engine.specs.Interface.{isSoundSetup, isAllowed, isPolicy, isFree, isHeld, isSound}
 
 -- The rows 1, 3 and 4, of ask, tick, packet and drop, before a call's other rows.
 unfoldable pub stateAndTime : Interface → Time → Option ℕ → Option ℕ
@@ -22,15 +22,21 @@ stateAndTime s time others =
     3 if ltb lastTime (time .0) else
     4 if ltb (time .0) (s .latest .0) else others
 
-unfoldable pub freshRefusal : HardwareAddress → Option ℕ
-freshRefusal hardware = 2 if not (isOwnHardware hardware) else none
+-- The rows 1, 3, 4 and 5, of tick and packet, before a call's other rows.
+abbrev pub stateTimeAndRoom : Interface → Time → ℕ → Option ℕ → Option ℕ
+stateTimeAndRoom s time room others = stateAndTime s time (5 if ltb room frameLength else others)
+
+unfoldable pub freshRefusal : Setup → Option ℕ
+freshRefusal setup = 2 if not (isSoundSetup setup) else none
 
 -- 12: "count is 10, and a request was accepted less than 60,000 ms ago".
 abbrev pub isTooSoon : Interface → Time → Bool
-isTooSoon s time = eqb (s .conflicts) (rfc5227 .maxConflicts) && isWithin (rfc5227 .rateLimitInterval) time (s .asked)
+isTooSoon s time =
+    eqb (s .conflicts) (timingOf (s .setup) .maxConflicts)
+    && isWithin (timingOf (s .setup) .rateLimitInterval) time (s .asked)
 
-unfoldable pub askRefusal : Interface → Time → Ipv4Address → ℕ → Option ℕ
-askRefusal s time address policy =
+unfoldable pub askRefusal : Interface → Time → Ipv4Address → ℕ → ℕ → Option ℕ
+askRefusal s time address policy draw =
     stateAndTime s time (
     8 if not (isAllowed address) else
     9 if not (isPolicy policy) else
@@ -38,12 +44,12 @@ askRefusal s time address policy =
     11 if isNone (lowest isFree (s .records)) else
     12 if isTooSoon s time else none)
 
-unfoldable pub tickRefusal : Interface → Time → ℕ → Option ℕ
-tickRefusal s time room = stateAndTime s time (5 if ltb room 28 else none)
+unfoldable pub tickRefusal : Interface → Time → ℕ → ℕ → Option ℕ
+tickRefusal s time draw room = stateTimeAndRoom s time room none
 
 -- 6 and 7 are those of a read.
 unfoldable pub packetRefusal : Interface → Time → List ℕ → ℕ → Option ℕ
-packetRefusal s time bytes room = stateAndTime s time (5 if ltb room 28 else readRefusal bytes)
+packetRefusal s time bytes room = stateTimeAndRoom s time room (readRefusal bytes)
 
 -- 13: "slot above 3, or free". A slot above the last has the free record.
 unfoldable pub dropRefusal : Interface → Time → ℕ → Option ℕ

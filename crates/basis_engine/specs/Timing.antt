@@ -2,6 +2,7 @@
 use Prim.Native.Nat.{ℕ, _+_, _-_, _%_}
 use mathlib.Core.Bool.{Bool, false}
 use lib.Dec.{ltb}
+use Rattle.basis.specs.declared.Setup.{Setup}
 use Rattle.basis.specs.declared.Time.{Time}
 use Rattle.basis.specs.declared.Moment.{Moment}
 use Rattle.basis.specs.declared.Moment.the-variants.{Never, At}
@@ -35,12 +36,16 @@ rfc5227 =
       defendInterval = 10_000;
     }
 
--- "A lent draw is 32 bits: the first wait is draw mod 1,001, a probe gap 1,000 + draw mod 1,001."
-abbrev pub wait : ℕ → ℕ
-wait draw = draw % (rfc5227 .probeWait + 1)
+-- The row of a port: there is one.
+abbrev pub timingOf : Setup → Timing
+timingOf setup = rfc5227
 
-abbrev pub gap : ℕ → ℕ
-gap draw = rfc5227 .probeMin + draw % (rfc5227 .probeMax - rfc5227 .probeMin + 1)
+-- "A lent draw is 32 bits: the first wait is draw mod 1,001, a probe gap 1,000 + draw mod 1,001."
+abbrev pub wait : Timing → ℕ → ℕ
+wait row draw = draw % (row .probeWait + 1)
+
+abbrev pub gap : Timing → ℕ → ℕ
+gap row draw = row .probeMin + draw % (row .probeMax - row .probeMin + 1)
 
 -- The time so many ms after another.
 abbrev pub after : Time → ℕ → Time
