@@ -10,8 +10,7 @@ use Rattle.basis.specs.Frame.{frameBytes}
 use Rattle.basis.specs.declared.Frame.{Frame}
 use Rattle.basis.specs.declared.Refusal.the-variants.{LineMalformed}
 use Rattle.basis.specs.declared.Interface.{Interface}
-use Rattle.basis_engine.specs.Calls.{Call}
-use Rattle.basis_engine.specs.Machine.{outcomeOf, resultOf}
+use Rattle.basis_engine.specs.Machine.{outcomeOf, resultOf, Invocation}
 use Rattle.basis_lines.specs.Fields.{tab, newline}
 use Rattle.basis_lines.specs.Numbers.{decimal, hexText}
 use Rattle.basis_lines.specs.Forms.{callOf}
@@ -61,10 +60,13 @@ abbrev pub malformed : Interface → Answered
 malformed s = record { text = refusedText (refusalNumber LineMalformed); state = s }
 
 -- What a call of a line, or none, comes to.
-abbrev pub answerTo : Interface → Option Call → Answered
+abbrev pub answerTo : Interface → Option Invocation → Answered
 answerTo s none = malformed s
-answerTo s (some call) =
-    record { text = reportText (resultOf s call .report) (outcomeOf s call .frame); state = resultOf s call .state }
+answerTo s (some i) =
+    record {
+      text = reportText (resultOf s (i .call) (i .bytes) (i .lent) .report) (outcomeOf s (i .call) (i .bytes) .frame);
+      state = resultOf s (i .call) (i .bytes) (i .lent) .state;
+    }
 
 -- A line answered, for any bytes and any state.
 unfoldable pub lineAnswer : Interface → List ℕ → Answered
