@@ -1,8 +1,8 @@
--- `engine_decisions::put_at`: no slot, or each of the four by its number.
+-- `engine_slots::put_at`: no slot, or each of the four by its number.
 use borrow.Author.Needs.{needs}
-use Rattle.engine_decisions.proofs.DecisionsLaws.{slot-put}
-use Rattle.engine_decisions.proofs.put_at.Statement.{statement}
-use Rattle.engine_decisions.proofs.put_at.Tie as tie
+use Rattle.engine_slots.proofs.SlotsLaws.{slot-put}
+use Rattle.engine_slots.proofs.put_at.Statement.{statement}
+use Rattle.engine_slots.proofs.put_at.Tie as tie
 
 returns-2 : tie.Need-returns-2
 returns-2 c =

@@ -1,8 +1,8 @@
--- `engine_decisions::record_at`: each of the four by its number, or above them the free one.
+-- `engine_slots::record_at`: each of the four by its number, or above them the free one.
 use borrow.Author.Needs.{needs}
-use Rattle.engine_decisions.proofs.DecisionsLaws.{slot-read}
-use Rattle.engine_decisions.proofs.record_at.Statement.{statement}
-use Rattle.engine_decisions.proofs.record_at.Tie as tie
+use Rattle.engine_slots.proofs.SlotsLaws.{slot-read}
+use Rattle.engine_slots.proofs.record_at.Statement.{statement}
+use Rattle.engine_slots.proofs.record_at.Tie as tie
 
 returns : tie.Need-returns
 returns c =

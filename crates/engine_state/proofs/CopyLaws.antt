@@ -1,8 +1,7 @@
 -- A law for each way that a function ends.
 use Prim.Native.Nat.{ℕ}
-use mathlib.Core.Path.{_≡_, refl, sym, ap, _∙_}
+use mathlib.Core.Path.{_≡_, sym, ap, _∙_}
 use mathlib.Core.List.{List, [], _∷_}
-use native.Mathlib.Omega.{arith}
 use lib.ListN.{length, getD}
 use Rattle.basis.specs.declared.Interface.{Interface}
 use Rattle.basis.specs.declared.Moment.{Moment}
@@ -31,15 +30,6 @@ pub ruleset stage-ends = (probing-copied, announced-copied, settled-copied)
 pub slot-copied : (from : Record) (stage : Stage) → stage ≡ from .stage →
     record { address = from .address; policy = from .policy; stage = stage } ≡ from
 slot-copied from stage e = rw e
-
-pub four-records : (records : List Record) → length records ≡ 4 → (none : Record) →
-    getD records 0 none ∷ getD records 1 none ∷ getD records 2 none ∷ getD records 3 none ∷ [] ≡ records
-four-records [] four none = absurd (omega arith)
-four-records (a ∷ []) four none = absurd (omega arith)
-four-records (a ∷ b ∷ []) four none = absurd (omega arith)
-four-records (a ∷ b ∷ c ∷ []) four none = absurd (omega arith)
-four-records (a ∷ b ∷ c ∷ d ∷ []) four none = refl
-four-records (a ∷ b ∷ c ∷ d ∷ e ∷ rest) four none = absurd (omega arith)
 
 pub slots-copied : (from : List Record) → length from ≡ 4 → (none first second third fourth : Record) →
     first ≡ getD from 0 none → second ≡ getD from 1 none → third ≡ getD from 2 none → fourth ≡ getD from 3 none →
