@@ -24,7 +24,8 @@ use Rattle.basis_engine.specs.Interface.{isFree}
 use Rattle.basis_engine.specs.Deadlines.{dueSlot}
 use Rattle.basis_engine.specs.Conflicts.{isConflict, countUp, resolution, recordAfter, defence, resolutionKind}
 
--- A call with its arguments. The last of a tick and of a packet is the out buffer as it was lent.
+-- A call with its arguments, numbers of any size (reading whole-numbers). The last of a tick and of a packet is the out buffer
+-- as it was lent.
 pub data Call : Type 0 where
   fresh : HardwareAddress → Call
   ask : Time → Ipv4Address → ℕ → ℕ → Call
@@ -50,7 +51,8 @@ renewed s time records =
       records = records;
     }
 
--- "Only the latest time changes": a tick with nothing due, and a packet that is no conflict.
+-- "Only the latest time changes": a tick with nothing due, and a packet that is no conflict
+-- (readings accepted-sets-time, none-has-no-slot).
 abbrev pub nothing : Interface → Time → Outcome
 nothing s time = record { kind = Nothing; slot = none; state = renewed s time (s .records); frame = none }
 
@@ -71,7 +73,7 @@ freshOutcome hardware =
     }
 
 -- Ask: "takes the lowest free slot, probing with none sent, deadline time + draw mod 1,001. This time becomes that of the
--- latest request."
+-- latest request." (reading request-is-an-ask)
 abbrev pub newClaim : Time → Ipv4Address → ℕ → ℕ → Record
 newClaim time address policy draw =
     record { address = address; policy = policy; stage = Probing 0 (after time (wait draw)) }
@@ -93,7 +95,7 @@ askOutcome s time address policy draw =
 
 -- Tick, a due slot served. "First or second probe: next deadline time + gap. Third: time + 2,000. Then the first announcement,
 -- deadline time + 2,000; then the second, settled. All are counted from the time of the call." A free or settled record has no
--- deadline and is never due.
+-- deadline and is never due (readings both-announce, defence-keeps-deadline).
 pub record Service : Type 0 where
   pub kind : Kind
   pub stage : Stage

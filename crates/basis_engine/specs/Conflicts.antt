@@ -33,7 +33,7 @@ probesFor f address = eqb (f .operation) 1 && eqb (f .sender .ip .0) 0 && eqb (f
 -- - the record is probing and the sender IP is its address, whatever the sender hardware or operation; or
 -- - it's probing, operation 1, sender IP zero, target IP its address, sender hardware not ours; or
 -- - it's usable, sender IP its address, sender hardware not ours."
--- "A deadline that has passed without a tick changes nothing here: the stage decides."
+-- "A deadline that has passed without a tick changes nothing here: the stage decides." (reading late-echo)
 abbrev pub isConflictAt : HardwareAddress → Frame → Ipv4Address → Stage → Bool
 isConflictAt own f address Free = false
 isConflictAt own f address (Probing sent deadline) =
@@ -44,7 +44,8 @@ isConflictAt own f address (Settled conflict) = isFrom f address && not (isOurs 
 abbrev pub isConflict : HardwareAddress → Frame → Record → Bool
 isConflict own f r = isConflictAt own f (r .address) (r .stage)
 
--- "A conflict adds one to the count unless it is 10."
+-- "A conflict adds one to the count unless it is 10." A defended one too, over all records
+-- (readings count-never-falls, document-01-decides).
 abbrev pub countUp : ℕ → ℕ
 countUp count = cond (eqb count (rfc5227 .maxConflicts)) count (suc count)
 
@@ -66,7 +67,7 @@ resolutionAt policy now (Settled conflict) = byPolicy policy now conflict
 unfoldable pub resolution : Time → Record → Resolution
 resolution now r = resolutionAt (r .policy) now (r .stage)
 
--- "Each conflict seen, answered or not, becomes the last one seen."
+-- "Each conflict seen, answered or not, becomes the last one seen." (reading defence-keeps-deadline)
 abbrev pub seenAt : Time → Stage → Stage
 seenAt now Free = Free
 seenAt now (Probing sent deadline) = Probing sent deadline

@@ -1,4 +1,5 @@
--- Document 01, "Refusal numbers": of each call its rows of the table, in the table's order, for any state and any arguments.
+-- Document 01, "Refusal numbers": of each call its rows of the table, in the table's order, for any state and any arguments
+-- (readings lowest-number, whole-numbers).
 use Prim.Native.Nat.{ℕ}
 use mathlib.Core.Bool.{Bool, not, _&&_, _||_}
 use mathlib.Core.List.{List}
@@ -25,7 +26,7 @@ stateAndTime s time others =
 unfoldable pub freshRefusal : HardwareAddress → Option ℕ
 freshRefusal hardware = 2 if not (isOwnHardware hardware) else none
 
--- 12: "count is 10, and a request was accepted less than 60,000 ms ago".
+-- 12: "count is 10, and a request was accepted less than 60,000 ms ago" (readings request-is-an-ask, ten-conflicts-no-ask).
 abbrev pub isTooSoon : Interface → Time → Bool
 isTooSoon s time = eqb (s .conflicts) (rfc5227 .maxConflicts) && isWithin (rfc5227 .rateLimitInterval) time (s .asked)
 
@@ -38,6 +39,7 @@ askRefusal s time address policy =
     11 if isNone (lowest isFree (s .records)) else
     12 if isTooSoon s time else none)
 
+-- 5: "out buffer under 28 bytes", with or without a frame to write (reading room-by-length).
 unfoldable pub tickRefusal : Interface → Time → ℕ → Option ℕ
 tickRefusal s time room = stateAndTime s time (5 if ltb room 28 else none)
 

@@ -37,11 +37,11 @@ isForm word more fields = sameBytes (field 0 fields) word && eqb (length fields)
 abbrev pub time : List ℕ → Option Time
 time text = number largest text then λ ms. some (record { 0 = ms })
 
--- The out buffer that a replay lends: 28 bytes.
+-- The out buffer that a replay lends: 28 bytes (reading replay-lends-28).
 abbrev pub lentBuffer : List ℕ
 lentBuffer = replicate 28 0
 
--- The call that fields make, or none.
+-- The call that fields make, or none (readings empty-packet-field, unused-draw).
 unfoldable pub callIn : List (List ℕ) → Option Call
 callIn fields =
     cond (isForm freshWord 1 fields) (hardware (field 1 fields) then λ own. some (fresh own))
@@ -59,7 +59,7 @@ callIn fields =
     (time (field 1 fields) then λ t. number largest (field 2 fields) then λ slot. some (drop t slot))
     none))))
 
--- "One record a line, ended by byte 10, at most 4,096 bytes before it."
+-- "One record a line, ended by byte 10, at most 4,096 bytes before it." (reading line-limit)
 abbrev pub longestLine : ℕ
 longestLine = 4_096
 
