@@ -15,6 +15,7 @@ use Rattle.basis.specs.declared.Answer.{Answer}
 use Rattle.basis.specs.declared.Answer.the-variants as Answer
 use Rattle.basis_engine.specs.Slots.{putAt}
 use Rattle.basis_engine.specs.Deadlines.{smallestDeadline}
+use Rattle.basis_engine.specs.Interface.{changed}
 use Rattle.engine_decisions.specs.declared.Outgoing.{Outgoing}
 use Rattle.engine_decisions.specs.declared.Outgoing.the-variants.{Send}
 use Rattle.engine_decisions.specs.declared.Verdict.{Verdict}
@@ -42,15 +43,8 @@ pub ruleset answer-ends = (refusal-told, kind-told)
 
 pub change-made : (s : Interface) (change : Change) (records : List Record) →
     records ≡ putAt (s .records) (slotOf (change .slot)) (change .held) →
-    record {
-      hardware = s .hardware;
-      latest = change .latest;
-      asked = change .asked;
-      conflicts = change .conflicts;
-      records = records;
-    }
-    ≡ changedBy s change
-change-made s change records e = rw e
+    (new : Interface) → new ≡ changed s (change .latest) (change .asked) (change .conflicts) records → new ≡ changedBy s change
+change-made s change records e new n = rw (n, e)
 
 -- `new` is the state with the change, and `answer` what is said of it.
 pub carried-out : (s : Interface) (d : Decision) (new : Interface) → new ≡ changedBy s (d .change) →

@@ -1,2 +1,2 @@
 -- What the functions do.
-pub mod CopyLaws
+pub mod StateLaws

@@ -1,11 +1,11 @@
 // Reads frames of captures made with other makers' programs, one a line as 56 hex digits, and writes each again. For each it
 // prints the operation, the sender's and the target's addresses, and whether the bytes written are the bytes read.
-use libc::STDIN_FILENO;
-use libc::STDOUT_FILENO;
 use basis::Frame;
 use basis::Host;
 use basis::ReadAnswer;
 use basis::WriteAnswer;
+use libc::STDIN_FILENO;
+use libc::STDOUT_FILENO;
 ghost use Prim.Native.Nat.{_<_};
 
 // The value of a hex digit. The input is our own data: on any other byte it gives some digit.

@@ -1,6 +1,6 @@
 // The bytes of an ARP frame of RFC 826, for Ethernet and IPv4: 28, most significant first.
-use frame::REQUEST;
 use basis::Frame;
+use frame::REQUEST;
 ghost use mathlib.Core.Path.{_≡_};
 ghost use mathlib.Core.List.{_++_};
 ghost use lib.ListN.{drop};

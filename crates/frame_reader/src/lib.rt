@@ -1,7 +1,7 @@
 // Reading an ARP frame: its fields, or a refusal.
-use frame::REQUEST;
 use basis::ReadAnswer;
 use basis::Refusal;
+use frame::REQUEST;
 ghost use mathlib.Core.Path.{_≡_};
 ghost use Prim.Native.Nat.{_≤_};
 ghost use lib.ListN.{length};

@@ -1,14 +1,14 @@
 // The command that a line stands for: "Forms: `fresh` hardware; `ask` time address policy draw; `tick` time draw; `packet` time
 // bytes; `drop` time slot", fields parted by one tab.
+use basis::Ipv4Address;
+use basis::Time;
+use basis_lines::LONGEST_LINE;
 use parse_addresses::AddressReading;
 use parse_forms::Command;
 use parse_forms::LARGEST;
 use parse_forms::LARGEST_DRAW;
 use parse_forms::TAB;
-use basis_lines::LONGEST_LINE;
 use parse_numbers::Reading;
-use basis::Ipv4Address;
-use basis::Time;
 ghost use mathlib.Core.List.{_∷_};
 ghost use Rattle.basis_lines.specs.Fields.{tab, parts};
 ghost use Rattle.basis_lines.specs.Forms.{askWord, callOf};

@@ -1,12 +1,12 @@
 // The commands, and the forms that are shorter than `ask`: "`fresh` hardware; .. `tick` time draw; `packet` time bytes; `drop` time
 // slot", fields parted by one tab. The last field of a form is all that is left of the line: a tab is no digit, so one field too
 // many is refused by the last one's reader.
-use parse_hex::BytesReading;
-use parse_hex::HardwareReading;
-use parse_numbers::Reading;
 use basis::HardwareAddress;
 use basis::Ipv4Address;
 use basis::Time;
+use parse_hex::BytesReading;
+use parse_hex::HardwareReading;
+use parse_numbers::Reading;
 ghost use Prim.Native.Nat.{_≤_};
 ghost use mathlib.Core.Path.{_≡_};
 ghost use mathlib.Core.List.{_∷_};

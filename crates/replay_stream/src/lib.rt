@@ -1,12 +1,12 @@
 // A replay whose input arrives in pieces: the lines at hand are answered, and what is left of the input is to come again with the
 // next piece.
-use basis_lines::LONGEST_ANSWER;
-use basis_lines::LONGEST_LINE;
-use basis_lines::Stream;
 use basis::HardwareAddress;
 use basis::Interface;
 use basis::Moment;
 use basis::Time;
+use basis_lines::LONGEST_ANSWER;
+use basis_lines::LONGEST_LINE;
+use basis_lines::Stream;
 ghost use mathlib.Core.Path.{_≡_};
 ghost use mathlib.Core.Bool.{cond};
 ghost use lib.ListN.{length};
@@ -88,7 +88,7 @@ pub fn work(stream: Stream, input: &[u8], out: &mut [u8]) -> Worked
         sound = replay_turns::is_sound(state, sound);
         let answered = replay_turns::answer_at(state, sound, skipping, line, out, done);
         let next = answered.state;
-        state = engine_copy::interface(next);
+        state = engine_state::copy(next);
         skipping = false;
         at += line.len() + 1;
         done += answered.written;

@@ -1,8 +1,8 @@
--- `engine_copy::moment`.
+-- `engine_state::moment`.
 use borrow.Author.Needs.{needs}
-use Rattle.engine_copy.proofs.CopyLaws.{moment-copied}
-use Rattle.engine_copy.proofs.moment.Statement.{statement}
-use Rattle.engine_copy.proofs.moment.Tie as tie
+use Rattle.engine_state.proofs.StateLaws.{moment-copied}
+use Rattle.engine_state.proofs.moment.Statement.{statement}
+use Rattle.engine_state.proofs.moment.Tie as tie
 
 returns-2 : tie.Need-returns-2
 returns-2 c = search moment-copied

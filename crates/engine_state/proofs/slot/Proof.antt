@@ -1,8 +1,8 @@
--- `engine_copy::slot`.
+-- `engine_state::slot`.
 use borrow.Author.Needs.{needs}
-use Rattle.engine_copy.proofs.CopyLaws.{slot-copied}
-use Rattle.engine_copy.proofs.slot.Statement.{statement}
-use Rattle.engine_copy.proofs.slot.Tie as tie
+use Rattle.engine_state.proofs.StateLaws.{slot-copied}
+use Rattle.engine_state.proofs.slot.Statement.{statement}
+use Rattle.engine_state.proofs.slot.Tie as tie
 
 returns : tie.Need-returns
 returns c = search slot-copied

@@ -1,8 +1,8 @@
--- `engine_copy::slots`.
+-- `engine_state::slots`.
 use borrow.Author.Needs.{needs}
-use Rattle.engine_copy.proofs.CopyLaws.{slots-copied}
-use Rattle.engine_copy.proofs.slots.Statement.{statement}
-use Rattle.engine_copy.proofs.slots.Tie as tie
+use Rattle.engine_state.proofs.StateLaws.{slots-copied}
+use Rattle.engine_state.proofs.slots.Statement.{statement}
+use Rattle.engine_state.proofs.slots.Tie as tie
 
 returns : tie.Need-returns
 returns c = search slots-copied

@@ -1,8 +1,8 @@
--- `engine_copy::stage`.
+-- `engine_state::stage`.
 use borrow.Author.Needs.{needs}
-use Rattle.engine_copy.proofs.CopyLaws.{stage-ends}
-use Rattle.engine_copy.proofs.stage.Statement.{statement}
-use Rattle.engine_copy.proofs.stage.Tie as tie
+use Rattle.engine_state.proofs.StateLaws.{stage-ends}
+use Rattle.engine_state.proofs.stage.Statement.{statement}
+use Rattle.engine_state.proofs.stage.Tie as tie
 
 returns-2 : tie.Need-returns-2
 returns-2 c = search stage-ends
