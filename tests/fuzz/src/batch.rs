@@ -1,5 +1,7 @@
 //! One input for both programs: several histories, and how it arrives.
 
+use twin::Refusal;
+
 use crate::coverage::Coverage;
 use crate::generator::Generator;
 use crate::places::Part;
@@ -70,7 +72,7 @@ fn fill(generator: &mut Generator) {
 /// The last line: ended, or unended and in the form, or not, or too long.
 fn end(generator: &mut Generator, number: u64) {
     let malformed = number % 3 == 2;
-    while generator.answers.ends_with(b"refused\t14\n") != malformed {
+    while (generator.answer == Err(Refusal::LineNotInForm)) != malformed {
         if malformed {
             generator.broken_line();
         } else {

@@ -2,16 +2,16 @@
 
 use std::fmt::Write;
 
-use crate::answer::Kind;
+use twin::{Kind, Refusal};
+
 use crate::book::STAGES;
-use crate::call::Call;
 use crate::meeting::Meeting;
 use crate::mutate::MUTATIONS;
 use crate::places::{
-    BEFORE, BEFORE_INTERVALS, CLOCK, CUTS, DEADLINES, FRESHES, INTERVALS, LATENESS,
-    OTHER_INTERVALS, OVERDUE, PACKETS, POLICIES, Part, RATE, REFUSALS, REFUSALS_TITLE, TIMES,
+    BEFORE_INTERVALS, CLOCK, CUTS, DEADLINES, FRESHES, INTERVALS, LATENESS, OTHER_INTERVALS,
+    OVERDUE, PACKETS, POLICIES, Part, RATE, REFUSALS_TITLE, TIMES, shown_refusals,
 };
-use crate::reasons::PAIRS;
+use crate::reasons::{CALLS, PAIRS};
 use crate::values::{ADDRESSES, DRAWS};
 
 #[derive(Clone)]
@@ -34,19 +34,18 @@ impl Default for Coverage {
 
 impl Coverage {
     pub fn new() -> Coverage {
-        let kinds = Kind::ALL.map(|(_, name)| name);
+        let calls = CALLS.map(|(word, _)| word);
         let meetings = cross(&POLICIES, &Meeting::ALL.map(|(_, name)| name));
         let mut intervals = cross(&BEFORE_INTERVALS, &INTERVALS);
         intervals.extend(OTHER_INTERVALS.map(String::from));
-        let mut times = cross(&Call::WORDS[1..], &TIMES);
+        let mut times = cross(&calls, &TIMES);
         times.extend(DEADLINES.map(String::from));
         times.extend(CLOCK.map(String::from));
         let draws = cross(&["ask", "tick"], &DRAWS);
-        let addresses = ADDRESSES.map(|[a, b, c, d]| format!("{a}.{b}.{c}.{d}"));
         let broken: Vec<&str> = MUTATIONS.iter().map(|mutation| mutation.name).collect();
         let tables = vec![
-            table("Kinds", kinds),
-            table(REFUSALS_TITLE, REFUSALS),
+            table("Kinds", Kind::ALL.map(Kind::word)),
+            table(REFUSALS_TITLE, shown_refusals().map(Refusal::number)),
             table("Two refusals at once", PAIRS.iter().map(pair)),
             table(
                 "Packets by policy, meaning and stage",
@@ -60,10 +59,13 @@ impl Coverage {
             table("Slots in use at an accepted call", 0..=4),
             table("Times", times),
             table("Draws", draws),
-            table("Addresses asked for", addresses),
+            table("Addresses asked for", ADDRESSES),
             table("Packets", PACKETS),
             table("Freshes", FRESHES),
-            table("Before the first fresh", BEFORE),
+            table(
+                "Before the first fresh",
+                ["malformed"].into_iter().chain(calls),
+            ),
             table("Changed lines", broken),
             table("Cuts", CUTS),
         ];
@@ -128,8 +130,8 @@ fn table<T: ToString>(title: &'static str, names: impl IntoIterator<Item = T>) -
     }
 }
 
-fn pair(&(call, one, two): &(usize, usize, usize)) -> String {
-    format!("{} {one} and {two}", Call::WORDS[call])
+fn pair(&(call, one, two): &(usize, u8, u8)) -> String {
+    format!("{} {one} and {two}", CALLS[call].0)
 }
 
 /// Each of the first with each of the second.

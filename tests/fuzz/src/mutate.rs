@@ -109,10 +109,7 @@ pub const MUTATIONS: &[Mutation] = &[
         line[place] = line[place].to_ascii_uppercase();
     }),
     often("other word", Anything, |random, line| {
-        set_word(
-            line,
-            random.pick(&["fresh", "ask", "tick", "packet", "drop"]),
-        );
+        set_word(line, random.pick(&twin::WORDS));
     }),
     often("leading zero", Time, |random, line| {
         before_field(random, line, b'0')

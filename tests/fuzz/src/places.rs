@@ -1,5 +1,7 @@
 //! The names of the places that a run is meant to reach.
 
+use twin::Refusal;
+
 /// The tables, in the order in which they are kept.
 #[derive(Clone, Copy)]
 pub enum Part {
@@ -25,7 +27,10 @@ pub enum Part {
 
 /// The refusals that a replay can show. It lends 28 bytes to each call, so 5
 /// (out buffer under 28 bytes) can't be seen in its output.
-pub const REFUSALS: [usize; 13] = [1, 2, 3, 4, 6, 7, 8, 9, 10, 11, 12, 13, 14];
+pub fn shown_refusals() -> impl Iterator<Item = Refusal> {
+    let shown = |refusal: &Refusal| *refusal != Refusal::OutTooShort;
+    Refusal::ALL.into_iter().filter(shown)
+}
 
 pub const REFUSALS_TITLE: &str = "Refusals (5 can't be seen: the replay lends 28 bytes)";
 pub const DEADLINES: [&str; 3] = ["deadline 2^48 - 1", "deadline 2^48", "deadline above that"];
@@ -117,7 +122,6 @@ pub const FRESHES: [&str; 10] = [
     "refused with nothing held",
     "refused with a claim open",
 ];
-pub const BEFORE: [&str; 5] = ["malformed", "ask", "tick", "packet", "drop"];
 pub const CUTS: [&str; 11] = [
     "inputs in pieces",
     "pieces",
