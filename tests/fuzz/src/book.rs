@@ -111,7 +111,7 @@ impl Book {
     /// The state is still the one before the call.
     fn note_slot(&mut self, kind: Kind, slot: usize, time: Time) {
         let claim = self.claim(slot);
-        if matches!(kind, Kind::Defend | Kind::Kept | Kind::Lost) {
+        if kind.is_conflict() {
             let stage = place(claim.record.stage);
             self.last[slot] = Some(Conflict { time, kind, stage });
             self.conflicts += 1;

@@ -8,8 +8,8 @@ use crate::book::STAGES;
 use crate::meeting::Meeting;
 use crate::mutate::MUTATIONS;
 use crate::places::{
-    BEFORE_INTERVALS, CLOCK, CUTS, DEADLINES, FRESHES, INTERVALS, LATENESS, OTHER_INTERVALS,
-    OVERDUE, PACKETS, POLICIES, Part, RATE, REFUSALS_TITLE, TIMES, shown_refusals,
+    BEFORE_INTERVALS, CLOCK, CUTS, DEADLINES, FRESHES, INTERVALS, LATENESS, NEW_USE, OVERDUE,
+    PACKETS, POLICIES, Part, RATE, REFUSALS_TITLE, SETTLED_SINCE, TIMES, WRAPPED, shown_refusals,
 };
 use crate::reasons::{CALLS, PAIRS};
 use crate::values::{ADDRESSES, DRAWS};
@@ -37,7 +37,9 @@ impl Coverage {
         let calls = CALLS.map(|(word, _)| word);
         let meetings = cross(&POLICIES, &Meeting::ALL.map(|(_, name)| name));
         let mut intervals = cross(&BEFORE_INTERVALS, &INTERVALS);
-        intervals.extend(OTHER_INTERVALS.map(String::from));
+        intervals.extend(SETTLED_SINCE.map(String::from));
+        intervals.extend(NEW_USE.map(String::from));
+        intervals.extend(WRAPPED.map(String::from));
         let mut times = cross(&calls, &TIMES);
         times.extend(DEADLINES.map(String::from));
         times.extend(CLOCK.map(String::from));
@@ -72,12 +74,20 @@ impl Coverage {
         Coverage { tables }
     }
 
+    /// Counts the place in this row.
     pub fn hit(&mut self, part: Part, row: usize) {
-        self.add(part, row, 1);
+        self.tables[part as usize].counts[row] += 1;
     }
 
-    pub fn add(&mut self, part: Part, row: usize, count: u64) {
-        self.tables[part as usize].counts[row] += count;
+    /// Counts the place of this name.
+    pub fn meet(&mut self, part: Part, name: &str) {
+        self.add(part, name, 1);
+    }
+
+    pub fn add(&mut self, part: Part, name: &str, count: u64) {
+        let Table { names, counts, .. } = &mut self.tables[part as usize];
+        let row = names.iter().position(|known| known == name);
+        counts[row.expect("a place of the table")] += count;
     }
 
     pub fn merge(&mut self, other: &Coverage) {

@@ -263,7 +263,7 @@ impl Generator {
         self.answer_from(start);
         self.coverage.hit(Part::Broken, chosen);
         if !self.book.has_begun() && self.answer == Err(Refusal::LineNotInForm) {
-            self.coverage.hit(Part::Before, 0);
+            self.coverage.meet(Part::Before, "malformed");
         }
         self.note();
     }

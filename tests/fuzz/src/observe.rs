@@ -11,7 +11,9 @@ use crate::book::{Book, Claim, Conflict, STAGES, place};
 use crate::choose::Met;
 use crate::coverage::Coverage;
 use crate::meeting::Meeting;
-use crate::places::{Part, shown_refusals};
+use crate::places::{
+    DEADLINES, LATENESS, NEW_USE, Part, SETTLED_SINCE, TIMES, WRAPPED, shown_refusals,
+};
 use crate::reasons::{CALLS, PAIRS, reasons};
 use crate::values::{ADDRESSES, APART, DRAWS, HARDWARE, WAITED, WRAP};
 
@@ -22,8 +24,8 @@ pub fn answer(coverage: &mut Coverage, answer: Result<Answer, Refusal>) {
         Ok(Answer { kind, next, .. }) => {
             coverage.hit(Part::Kinds, kind as usize);
             if let Some(deadline) = next.filter(|deadline| *deadline >= Time::LAST) {
-                let above = deadline.since(Time::LAST);
-                coverage.hit(Part::Times, 16 + above.min(2) as usize);
+                let above = deadline.since(Time::LAST).min(2);
+                coverage.meet(Part::Times, DEADLINES[above as usize]);
             }
         }
         Err(refusal) => {
@@ -93,18 +95,16 @@ fn timed(coverage: &mut Coverage, book: &Book, word: &str, time: Time) {
         return;
     };
     if !book.has_begun() {
-        coverage.hit(Part::Before, 1 + number);
+        coverage.meet(Part::Before, word);
     }
-    let first = number * 4;
-    if time == Time::LAST {
-        coverage.hit(Part::Times, first);
-    } else if time == Time::LAST.plus(1) {
-        coverage.hit(Part::Times, first + 1);
-    } else if time == Time(u64::MAX) {
-        coverage.hit(Part::Times, first + 2);
-    } else if time.plus(1) == book.state.latest {
-        coverage.hit(Part::Times, first + 3);
-    }
+    let row = match time {
+        Time::LAST => 0,
+        Time(ms) if ms == Time::LAST.0 + 1 => 1,
+        Time(u64::MAX) => 2,
+        _ if time.plus(1) == book.state.latest => 3,
+        _ => return,
+    };
+    coverage.hit(Part::Times, number * TIMES.len() + row);
 }
 
 /// An accepted call's step over a power of two on which a clock may wrap.
@@ -115,13 +115,13 @@ fn clock(coverage: &mut Coverage, book: &Book, call: &Call) {
     let Time(latest) = book.state.latest;
     let passes = |edge: u64| latest < edge && edge <= time;
     if time - latest >= WRAP {
-        coverage.hit(Part::Times, 22);
+        coverage.meet(Part::Times, "2^32 and more in one step");
     } else if passes(1 << 31) {
-        coverage.hit(Part::Times, 19);
+        coverage.meet(Part::Times, "clock passes 2^31");
     } else if passes(WRAP) {
-        coverage.hit(Part::Times, 20);
+        coverage.meet(Part::Times, "clock passes 2^32");
     } else if latest / WRAP != time / WRAP {
-        coverage.hit(Part::Times, 21);
+        coverage.meet(Part::Times, "clock passes another multiple of 2^32");
     }
 }
 
@@ -130,12 +130,14 @@ fn fresh(coverage: &mut Coverage, book: &Book, hardware: Hardware, accepted: boo
         coverage.hit(Part::Freshes, row);
     }
     let claims = book.state.records().next().is_some();
-    let row = match (accepted, claims) {
-        (true, _) => 5 + usize::from(claims),
-        (false, _) if !book.has_begun() => 7,
-        (false, _) => 8 + usize::from(claims),
+    let name = match (accepted, claims) {
+        (true, false) => "accepted with nothing held",
+        (true, true) => "accepted with a claim open",
+        (false, false) if !book.has_begun() => "refused before the first",
+        (false, false) => "refused with nothing held",
+        (false, true) => "refused with a claim open",
     };
-    coverage.hit(Part::Freshes, row);
+    coverage.meet(Part::Freshes, name);
 }
 
 fn ask(coverage: &mut Coverage, book: &Book, time: Time, address: Address) {
@@ -148,28 +150,33 @@ fn ask(coverage: &mut Coverage, book: &Book, time: Time, address: Address) {
     let after = time.since(request);
     match book.state.conflicts {
         MAX_CONFLICTS => after_ten(coverage, after),
-        LAST_BUT_ONE if after < RATE_LIMIT_INTERVAL => coverage.hit(Part::Rate, 8),
+        LAST_BUT_ONE if after < RATE_LIMIT_INTERVAL => {
+            coverage.meet(Part::Rate, "ask soon after the request with 9 conflicts")
+        }
         _ => {}
     }
 }
 
 /// Counts an ask this long after the latest request, after ten conflicts.
 fn after_ten(coverage: &mut Coverage, after: u64) {
-    if let Some(row) = WAITED.iter().position(|known| *known == after) {
-        coverage.hit(Part::Rate, 4 + row);
-    } else if after == 0 {
-        coverage.hit(Part::Rate, 7);
-    } else if (WRAP..WRAP + RATE_LIMIT_INTERVAL).contains(&after) {
-        coverage.hit(Part::Rate, 9);
-    }
+    const WRAPPED_LIMIT: u64 = WRAP + RATE_LIMIT_INTERVAL;
+    let name = match after {
+        0 => "ask 0 ms after",
+        _ if after == WAITED[0] => "ask 59,999 ms after the request",
+        _ if after == WAITED[1] => "ask 60,000 ms after",
+        _ if after == WAITED[2] => "ask 60,001 ms after",
+        WRAP..WRAPPED_LIMIT => "ask 2^32 and under 60,000 ms after the request",
+        _ => return,
+    };
+    coverage.meet(Part::Rate, name);
 }
 
 fn too_many_conflicts(coverage: &mut Coverage, book: &Book) {
     if book.conflicts >= 256 {
-        coverage.hit(Part::Rate, 10);
+        coverage.meet(Part::Rate, "refused after 256 conflicts or more");
     }
     if book.state.request == Some(Time(0)) {
-        coverage.hit(Part::Rate, 11);
+        coverage.meet(Part::Rate, "refused with the request at time 0");
     }
 }
 
@@ -181,7 +188,7 @@ fn drawn(coverage: &mut Coverage, first: usize, draw: u32) {
 
 fn tick(coverage: &mut Coverage, book: &Book, time: Time) {
     let Some((slot, deadline)) = book.state.earliest() else {
-        return coverage.hit(Part::Overdue, 6);
+        return coverage.meet(Part::Overdue, "nothing waited for");
     };
     let lateness = match time.0.wrapping_sub(deadline.0) {
         u64::MAX => Some(0),
@@ -192,7 +199,7 @@ fn tick(coverage: &mut Coverage, book: &Book, time: Time) {
     };
     if let Some(row) = lateness {
         let stage = place(book.state.slots[slot].stage);
-        coverage.hit(Part::Ticks, stage * 4 + row);
+        coverage.hit(Part::Ticks, stage * LATENESS.len() + row);
     }
     several_due(coverage, book, time, deadline);
 }
@@ -211,11 +218,15 @@ fn several_due(coverage: &mut Coverage, book: &Book, time: Time, earliest: Time)
         .filter(|deadline| *deadline == earliest)
         .count();
     if ties > 1 {
-        coverage.hit(Part::Overdue, 3 + (ties - 2).min(1));
+        let three = ties > 2;
+        coverage.meet(
+            Part::Overdue,
+            if three { "tie of three" } else { "tie of two" },
+        );
     }
     let lowest = book.deadlines().find(|deadline| *deadline <= time);
     if lowest != Some(earliest) {
-        coverage.hit(Part::Overdue, 5);
+        coverage.meet(Part::Overdue, "a higher slot served first");
     }
 }
 
@@ -223,38 +234,45 @@ fn packet(coverage: &mut Coverage, book: &Book, bytes: &[u8]) {
     const LAST_SHORT: usize = FRAME_LEN - 1;
     const FIRST_LONG: usize = FRAME_LEN + 1;
     let length = match bytes.len() {
-        0 => 0,
-        LAST_SHORT => 2,
-        FRAME_LEN => 3,
-        FIRST_LONG => 4,
-        1..FRAME_LEN => 1,
-        FRAME_LEN..1500 => 5,
-        _ => 6,
+        0 => "0 bytes",
+        LAST_SHORT => "27 bytes",
+        FRAME_LEN => "28 bytes",
+        FIRST_LONG => "29 bytes",
+        1..FRAME_LEN => "1 to 26 bytes",
+        FRAME_LEN..1500 => "30 to 1,499 bytes",
+        _ => "1,500 bytes",
     };
-    coverage.hit(Part::Packets, length);
-    if bytes.len() < FRAME_LEN {
-        return;
+    coverage.meet(Part::Packets, length);
+    if bytes.len() >= FRAME_LEN {
+        header(coverage, bytes);
     }
-    let wrong = (0..7).find(|place| bytes[*place] != REQUEST[*place]);
-    let header = match (wrong, bytes[7]) {
-        (Some(place), _) => 7 + place,
-        (None, 0) => 14,
-        (None, 1 | 2) => 16,
-        (None, 3) => 15,
-        (None, _) => 17,
-    };
-    coverage.hit(Part::Packets, header);
     if let Ok(frame) = Frame::read(bytes) {
-        near(coverage, book, frame.sender_ip, 18);
-        near(coverage, book, frame.target_ip, 19);
+        let sender = "sender IP one bit from a claimed one";
+        near(coverage, book, frame.sender_ip, sender);
+        let target = "target IP one bit from a claimed one";
+        near(coverage, book, frame.target_ip, target);
     }
 }
 
+/// Counts the first byte that is wrong, or the operation.
+fn header(coverage: &mut Coverage, bytes: &[u8]) {
+    if let Some(place) = (0..7).find(|place| bytes[*place] != REQUEST[*place]) {
+        return coverage.meet(Part::Packets, &format!("byte {place} wrong"));
+    }
+    let operation = match bytes[7] {
+        0 => "operation 0",
+        1 | 2 => "operation 1 or 2",
+        3 => "operation 3",
+        _ => "operation 4 to 255",
+    };
+    coverage.meet(Part::Packets, operation);
+}
+
 /// Counts an IP of which one bit is other than a claim's.
-fn near(coverage: &mut Coverage, book: &Book, ip: Address, row: usize) {
+fn near(coverage: &mut Coverage, book: &Book, ip: Address, name: &str) {
     let bits = |address: Address| (address.0 ^ ip.0).count_ones();
     if book.state.records().any(|record| bits(record.address) == 1) {
-        coverage.hit(Part::Packets, row);
+        coverage.meet(Part::Packets, name);
     }
 }
 
@@ -265,12 +283,9 @@ pub fn meeting(coverage: &mut Coverage, book: &Book, met: &Met, time: Time, kind
     let policy = usize::from(claim.record.policy);
     let row = (policy - 1) * Meeting::ALL.len() + *meeting as usize;
     coverage.hit(Part::Meetings, row * STAGES.len() + stage);
-    let conflict = match kind {
-        Kind::Lost => 0,
-        Kind::Defend => 1,
-        Kind::Kept => 2,
-        _ => return,
-    };
+    if !kind.is_conflict() {
+        return;
+    }
     interval(coverage, claim, time);
     new_use(coverage, book, claim, time);
     let deadline = claim.record.stage.deadline();
@@ -278,8 +293,8 @@ pub fn meeting(coverage: &mut Coverage, book: &Book, met: &Met, time: Time, kind
         coverage.hit(Part::Passed, stage);
     }
     match book.state.conflicts {
-        LAST_BUT_ONE => coverage.hit(Part::Rate, conflict),
-        MAX_CONFLICTS => coverage.hit(Part::Rate, 3),
+        LAST_BUT_ONE => coverage.meet(Part::Rate, &format!("tenth conflict {}", kind.word())),
+        MAX_CONFLICTS => coverage.meet(Part::Rate, "conflict after the tenth"),
         _ => {}
     }
 }
@@ -297,14 +312,14 @@ fn interval(coverage: &mut Coverage, claim: &Claim, time: Time) {
     let apart = time.since(last.time);
     let exact = APART.iter().position(|known| *known == apart);
     if let Some(row) = exact {
-        coverage.hit(Part::Intervals, before * 4 + row);
+        coverage.hit(Part::Intervals, before * APART.len() + row);
     }
     if (WRAP..WRAP + DEFEND_INTERVAL).contains(&apart) && policy >= 2 {
-        coverage.hit(Part::Intervals, 17 + policy);
+        coverage.meet(Part::Intervals, WRAPPED[policy - 2]);
     }
     let row = if apart < APART[1] { Some(0) } else { exact };
     if let (Some(row), true) = (row, last.stage != place(claim.record.stage)) {
-        coverage.hit(Part::Intervals, 12 + row);
+        coverage.meet(Part::Intervals, SETTLED_SINCE[row]);
     }
 }
 
@@ -314,6 +329,6 @@ fn new_use(coverage: &mut Coverage, book: &Book, claim: &Claim, time: Time) {
     let soon = |before: Conflict| time.since(before.time) < DEFEND_INTERVAL;
     let first = record.stage.is_usable() && record.stage.conflict().is_none();
     if first && book.last[*slot].is_some_and(soon) {
-        coverage.hit(Part::Intervals, 15 + usize::from(record.policy));
+        coverage.meet(Part::Intervals, NEW_USE[usize::from(record.policy) - 1]);
     }
 }

@@ -41,14 +41,20 @@ pub const BEFORE_INTERVALS: [&str; 3] = [
     "policy 3 after defend,",
     "policy 3 after kept,",
 ];
-pub const OTHER_INTERVALS: [&str; 9] = [
+pub const SETTLED_SINCE: [&str; 4] = [
     "announced, then settled, under 9,999",
     "announced, then settled, 9,999",
     "announced, then settled, 10,000",
     "announced, then settled, 10,001",
+];
+/// By policy.
+pub const NEW_USE: [&str; 3] = [
     "under 10,000 from the slot's use before, policy 1",
     "the same, policy 2",
     "the same, policy 3",
+];
+/// By policy, from 2 on.
+pub const WRAPPED: [&str; 2] = [
     "2^32 and under 10,000 apart, policy 2",
     "2^32 and under 10,000 apart, policy 3",
 ];

@@ -71,6 +71,12 @@ impl Kind {
     pub fn has_frame(self) -> bool {
         matches!(self, Kind::Probe | Kind::Announce | Kind::Defend)
     }
+
+    /// Whether the call, a packet, was a conflict.
+    #[inline]
+    pub fn is_conflict(self) -> bool {
+        matches!(self, Kind::Defend | Kind::Lost | Kind::Kept)
+    }
 }
 
 impl Interface {
