@@ -82,15 +82,13 @@ fn end(generator: &mut Generator, number: u64) {
         }
     }
     let name = match number % 6 {
-        0 | 3 => "last lines ended",
+        0 | 3 => return generator.coverage.meet(Part::Cuts, "last lines ended"),
         1 | 4 => "last lines unended, in the form",
         2 => "last lines unended, malformed",
         _ => "last lines unended, too long",
     };
     generator.coverage.meet(Part::Cuts, name);
-    if number % 3 != 0 {
-        generator.input.pop();
-    }
+    generator.input.pop();
     if number % 6 == 5 {
         let length = generator.random.between(4097, 70_000) as usize;
         generator.input.extend(std::iter::repeat_n(b'7', length));

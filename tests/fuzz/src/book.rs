@@ -17,8 +17,8 @@ pub const STAGES: [&str; 7] = [
 pub const ANNOUNCED: usize = 4;
 pub const SETTLED: usize = 5;
 
-/// The stage's place in `STAGES`.
-pub fn place(stage: Stage) -> usize {
+/// Where the stage stands in `STAGES`.
+pub fn stage_number(stage: Stage) -> usize {
     match stage {
         Stage::Probing { sent, .. } => usize::from(sent),
         Stage::Announced { .. } => ANNOUNCED,
@@ -42,7 +42,7 @@ pub struct Conflict {
     pub time: Time,
     /// What was answered.
     pub kind: Kind,
-    /// The place of the stage in which it came.
+    /// The number of the stage in which it came.
     pub stage: usize,
 }
 
@@ -89,13 +89,6 @@ impl Book {
         }
     }
 
-    pub fn deadlines(&self) -> impl Iterator<Item = Time> {
-        self.state
-            .slots
-            .iter()
-            .filter_map(|record| record.stage.deadline())
-    }
-
     /// Takes down an accepted call and the state that it made.
     pub fn note(&mut self, answer: Answer, state: &Interface) {
         if answer.kind == Kind::Fresh {
@@ -112,7 +105,7 @@ impl Book {
     fn note_slot(&mut self, kind: Kind, slot: usize, time: Time) {
         let claim = self.claim(slot);
         if kind.is_conflict() {
-            let stage = place(claim.record.stage);
+            let stage = stage_number(claim.record.stage);
             self.last[slot] = Some(Conflict { time, kind, stage });
             self.conflicts += 1;
         }

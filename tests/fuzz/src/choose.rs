@@ -3,7 +3,7 @@
 use twin::{Address, Hardware, MAX_CONFLICTS, PROBE_MIN, SLOTS, SPREAD, Time};
 
 use crate::Call;
-use crate::book::{Book, Claim, place};
+use crate::book::{Book, Claim, stage_number};
 use crate::meeting::{Around, Meeting, packet_bytes};
 use crate::random::Random;
 use crate::temper::Temper;
@@ -101,7 +101,7 @@ fn drawing(random: &mut Random, book: &Book, least: Time) -> u32 {
     if random.once_in(3) {
         let ties = |deadline: &Time| (least..least.plus(spread)).contains(deadline);
         let edge = Time::LAST.plus(random.below(2));
-        if let Some(deadline) = book.deadlines().chain([edge]).find(ties) {
+        if let Some(deadline) = book.state.deadlines().chain([edge]).find(ties) {
             let rest = deadline.since(least);
             return (rest + spread * random.below((u64::from(u32::MAX) - rest) / spread)) as u32;
         }
@@ -178,7 +178,7 @@ fn claim(random: &mut Random, book: &Book, temper: &Temper) -> Option<Claim> {
             .ended
             .filter(|ended| !book.state.holds(ended.record.address));
     }
-    let wanted = |claim: &Claim| temper.stages.contains(&place(claim.record.stage));
+    let wanted = |claim: &Claim| temper.stages.contains(&stage_number(claim.record.stage));
     let count = book.claims().filter(wanted).count();
     if count == 0 {
         return None;

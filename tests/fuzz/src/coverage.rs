@@ -11,7 +11,7 @@ use crate::places::{
     BEFORE_INTERVALS, CLOCK, CUTS, DEADLINES, FRESHES, INTERVALS, LATENESS, NEW_USE, OVERDUE,
     PACKETS, POLICIES, Part, RATE, REFUSALS_TITLE, SETTLED_SINCE, TIMES, WRAPPED, shown_refusals,
 };
-use crate::reasons::{CALLS, PAIRS};
+use crate::reasons::{CALLS, pairs};
 use crate::values::{ADDRESSES, DRAWS};
 
 #[derive(Clone)]
@@ -48,7 +48,7 @@ impl Coverage {
         let tables = vec![
             table("Kinds", Kind::ALL.map(Kind::word)),
             table(REFUSALS_TITLE, shown_refusals().map(Refusal::number)),
-            table("Two refusals at once", PAIRS.iter().map(pair)),
+            table("Two refusals at once", pairs()),
             table(
                 "Packets by policy, meaning and stage",
                 cross(&meetings, &STAGES),
@@ -138,10 +138,6 @@ fn table<T: ToString>(title: &'static str, names: impl IntoIterator<Item = T>) -
         names,
         counts,
     }
-}
-
-fn pair(&(call, one, two): &(usize, u8, u8)) -> String {
-    format!("{} {one} and {two}", CALLS[call].0)
 }
 
 /// Each of the first with each of the second.

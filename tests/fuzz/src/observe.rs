@@ -7,14 +7,12 @@ use twin::{
 };
 
 use crate::Call;
-use crate::book::{Book, Claim, Conflict, STAGES, place};
+use crate::book::{Book, Claim, Conflict, STAGES, stage_number};
 use crate::choose::Met;
 use crate::coverage::Coverage;
 use crate::meeting::Meeting;
-use crate::places::{
-    DEADLINES, LATENESS, NEW_USE, Part, SETTLED_SINCE, TIMES, WRAPPED, shown_refusals,
-};
-use crate::reasons::{CALLS, PAIRS, reasons};
+use crate::places::{DEADLINES, LATENESS, NEW_USE, Part, SETTLED_SINCE, WRAPPED, shown_refusals};
+use crate::reasons::{pair, reasons};
 use crate::values::{ADDRESSES, APART, DRAWS, HARDWARE, WAITED, WRAP};
 
 const LAST_BUT_ONE: u8 = MAX_CONFLICTS - 1;
@@ -54,14 +52,14 @@ pub fn call(coverage: &mut Coverage, book: &Book, call: &Call, answer: Result<An
                 too_many_conflicts(coverage, book);
             }
             if answer.is_ok() {
-                drawn(coverage, 0, *draw);
+                drawn(coverage, call.word(), *draw);
             }
         }
         Call::Tick { time, draw } => {
             if let Ok(answer) = answer {
                 tick(coverage, book, *time);
                 if answer.kind == Kind::Probe {
-                    drawn(coverage, DRAWS.len(), *draw);
+                    drawn(coverage, call.word(), *draw);
                 }
             }
         }
@@ -76,35 +74,29 @@ pub fn call(coverage: &mut Coverage, book: &Book, call: &Call, answer: Result<An
 
 /// Counts the pairs of refusals that apply.
 fn apply(coverage: &mut Coverage, book: &Book, call: &Call, refusal: Option<Refusal>) {
-    let set = reasons(&book.state, call);
-    let lowest = (set != 0).then(|| set.trailing_zeros() as u8);
-    debug_assert_eq!(lowest, refusal.map(Refusal::number), "the lowest is given");
-    if set.count_ones() < 2 {
-        return;
-    }
-    for (row, (of, one, two)) in PAIRS.iter().enumerate() {
-        if CALLS[*of].0 == call.word() && set >> one & set >> two & 1 == 1 {
-            coverage.hit(Part::Pairs, row);
+    let reasons = reasons(&book.state, call);
+    debug_assert_eq!(reasons.first().copied(), refusal, "the first is given");
+    for (place, one) in reasons.iter().enumerate() {
+        for two in &reasons[place + 1..] {
+            let name = pair(call.word(), one.number(), two.number());
+            coverage.meet(Part::Pairs, &name);
         }
     }
 }
 
 /// Counts the time of a call with this word.
 fn timed(coverage: &mut Coverage, book: &Book, word: &str, time: Time) {
-    let Some(number) = CALLS.iter().position(|(known, _)| *known == word) else {
-        return;
-    };
     if !book.has_begun() {
         coverage.meet(Part::Before, word);
     }
-    let row = match time {
-        Time::LAST => 0,
-        Time(ms) if ms == Time::LAST.0 + 1 => 1,
-        Time(u64::MAX) => 2,
-        _ if time.plus(1) == book.state.latest => 3,
+    let name = match time {
+        Time::LAST => "2^48 - 1",
+        Time(ms) if ms == Time::LAST.0 + 1 => "2^48",
+        Time(u64::MAX) => "2^64 - 1",
+        _ if time.plus(1) == book.state.latest => "one before the latest",
         _ => return,
     };
-    coverage.hit(Part::Times, number * TIMES.len() + row);
+    coverage.meet(Part::Times, &format!("{word} {name}"));
 }
 
 /// An accepted call's step over a power of two on which a clock may wrap.
@@ -180,9 +172,9 @@ fn too_many_conflicts(coverage: &mut Coverage, book: &Book) {
     }
 }
 
-fn drawn(coverage: &mut Coverage, first: usize, draw: u32) {
-    if let Some(row) = DRAWS.iter().position(|known| *known == draw) {
-        coverage.hit(Part::Draws, first + row);
+fn drawn(coverage: &mut Coverage, word: &str, draw: u32) {
+    if DRAWS.contains(&draw) {
+        coverage.meet(Part::Draws, &format!("{word} {draw}"));
     }
 }
 
@@ -198,48 +190,38 @@ fn tick(coverage: &mut Coverage, book: &Book, time: Time) {
         _ => None,
     };
     if let Some(row) = lateness {
-        let stage = place(book.state.slots[slot].stage);
+        let stage = stage_number(book.state.slots[slot].stage);
         coverage.hit(Part::Ticks, stage * LATENESS.len() + row);
     }
     several_due(coverage, book, time, deadline);
 }
 
 fn several_due(coverage: &mut Coverage, book: &Book, time: Time, earliest: Time) {
-    let overdue = book
-        .deadlines()
-        .filter(|deadline| *deadline <= time)
-        .count();
+    let deadlines = || book.state.deadlines();
+    let overdue = deadlines().filter(|deadline| *deadline <= time).count();
     if overdue < 2 {
         return;
     }
     coverage.hit(Part::Overdue, overdue - 2);
-    let ties = book
-        .deadlines()
-        .filter(|deadline| *deadline == earliest)
-        .count();
-    if ties > 1 {
-        let three = ties > 2;
-        coverage.meet(
-            Part::Overdue,
-            if three { "tie of three" } else { "tie of two" },
-        );
+    match deadlines().filter(|deadline| *deadline == earliest).count() {
+        1 => {}
+        2 => coverage.meet(Part::Overdue, "tie of two"),
+        _ => coverage.meet(Part::Overdue, "tie of three"),
     }
-    let lowest = book.deadlines().find(|deadline| *deadline <= time);
+    let lowest = deadlines().find(|deadline| *deadline <= time);
     if lowest != Some(earliest) {
         coverage.meet(Part::Overdue, "a higher slot served first");
     }
 }
 
 fn packet(coverage: &mut Coverage, book: &Book, bytes: &[u8]) {
-    const LAST_SHORT: usize = FRAME_LEN - 1;
-    const FIRST_LONG: usize = FRAME_LEN + 1;
     let length = match bytes.len() {
         0 => "0 bytes",
-        LAST_SHORT => "27 bytes",
-        FRAME_LEN => "28 bytes",
-        FIRST_LONG => "29 bytes",
-        1..FRAME_LEN => "1 to 26 bytes",
-        FRAME_LEN..1500 => "30 to 1,499 bytes",
+        1..=26 => "1 to 26 bytes",
+        27 => "27 bytes",
+        28 => "28 bytes",
+        29 => "29 bytes",
+        30..=1499 => "30 to 1,499 bytes",
         _ => "1,500 bytes",
     };
     coverage.meet(Part::Packets, length);
@@ -279,7 +261,7 @@ fn near(coverage: &mut Coverage, book: &Book, ip: Address, name: &str) {
 /// Counts what an accepted packet was to the claim that it is about.
 pub fn meeting(coverage: &mut Coverage, book: &Book, met: &Met, time: Time, kind: Kind) {
     let Met { claim, meeting } = met;
-    let stage = place(claim.record.stage);
+    let stage = stage_number(claim.record.stage);
     let policy = usize::from(claim.record.policy);
     let row = (policy - 1) * Meeting::ALL.len() + *meeting as usize;
     coverage.hit(Part::Meetings, row * STAGES.len() + stage);
@@ -318,7 +300,7 @@ fn interval(coverage: &mut Coverage, claim: &Claim, time: Time) {
         coverage.meet(Part::Intervals, WRAPPED[policy - 2]);
     }
     let row = if apart < APART[1] { Some(0) } else { exact };
-    if let (Some(row), true) = (row, last.stage != place(claim.record.stage)) {
+    if let (Some(row), true) = (row, last.stage != stage_number(claim.record.stage)) {
         coverage.meet(Part::Intervals, SETTLED_SINCE[row]);
     }
 }

@@ -1,8 +1,6 @@
 //! Which refusals apply to a call, all of them and not the lowest alone, so
 //! that the pairs that were met can be counted.
 
-use std::sync::LazyLock;
-
 use twin::{FRAME_LEN, Frame, Interface, Refusal, known_policy};
 
 use crate::Call;
@@ -20,23 +18,28 @@ pub const CALLS: [(&str, &[u8]); 4] = [
 /// latest time is in range, and a held address is allowed.
 const NEVER: [(u8, u8); 6] = [(1, 4), (1, 10), (1, 11), (1, 12), (3, 4), (8, 10)];
 
-/// The pairs that one call can meet: its place in `CALLS` and two refusals.
-pub static PAIRS: LazyLock<Vec<(usize, u8, u8)>> = LazyLock::new(|| {
-    let mut pairs = Vec::new();
-    for (call, (_, numbers)) in CALLS.iter().enumerate() {
+/// The names of the pairs that one call can meet.
+pub fn pairs() -> Vec<String> {
+    let mut names = Vec::new();
+    for (word, numbers) in CALLS {
         for (place, one) in numbers.iter().enumerate() {
             let later = numbers[place + 1..].iter();
             let met = later.filter(|two| !NEVER.contains(&(*one, **two)));
-            pairs.extend(met.map(|two| (call, *one, *two)));
+            names.extend(met.map(|two| pair(word, *one, *two)));
         }
     }
-    pairs
-});
+    names
+}
 
-/// The refusals that apply, as bits at their numbers.
-pub fn reasons(state: &Interface, call: &Call) -> u32 {
-    let mut set = 0;
-    let mut add = |refusal: Refusal, applies: bool| set |= u32::from(applies) << refusal.number();
+/// The name of a pair that a call with this word meets.
+pub fn pair(word: &str, one: u8, two: u8) -> String {
+    format!("{word} {one} and {two}")
+}
+
+/// The refusals that apply, the one to be given first.
+pub fn reasons(state: &Interface, call: &Call) -> Vec<Refusal> {
+    let mut found = Vec::new();
+    let mut add = |refusal: Refusal, applies: bool| found.extend(applies.then_some(refusal));
     if let Some(time) = call.time() {
         add(Refusal::StateNotSound, !state.is_sound());
         add(Refusal::TimeAboveRange, !time.in_range());
@@ -63,7 +66,7 @@ pub fn reasons(state: &Interface, call: &Call) -> u32 {
         }
         Call::Drop { slot, .. } => add(Refusal::SlotNotHeld, state.held_slot(*slot).is_none()),
     }
-    set
+    found
 }
 
 /// The first 28 bytes of a packet, zero where it has none.

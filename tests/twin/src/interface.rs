@@ -106,6 +106,12 @@ impl Interface {
         self.slots.iter().position(|slot| !slot.is_held())
     }
 
+    /// The deadlines, in the order of the slots.
+    #[inline]
+    pub fn deadlines(&self) -> impl Iterator<Item = Time> {
+        self.slots.iter().filter_map(|slot| slot.stage.deadline())
+    }
+
     /// The slot with the earliest deadline of a sound state, the lowest on a
     /// tie.
     #[inline]
