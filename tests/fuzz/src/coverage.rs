@@ -1,18 +1,9 @@
-//! The places that a run is meant to reach, and how often it met each.
+//! How often a run met each of the places.
 
 use std::fmt::Write;
 
-use twin::{Kind, Refusal};
-
 use crate::book::STAGES;
-use crate::meeting::Meeting;
-use crate::mutate::MUTATIONS;
-use crate::places::{
-    BEFORE_INTERVALS, CLOCK, CUTS, DEADLINES, FRESHES, INTERVALS, LATENESS, NEW_USE, OVERDUE,
-    PACKETS, POLICIES, Part, RATE, REFUSALS_TITLE, SETTLED_SINCE, TIMES, WRAPPED, shown_refusals,
-};
-use crate::reasons::{CALLS, pairs};
-use crate::values::{ADDRESSES, DRAWS};
+use crate::places::{self, Part};
 
 #[derive(Clone)]
 pub struct Table {
@@ -34,43 +25,12 @@ impl Default for Coverage {
 
 impl Coverage {
     pub fn new() -> Coverage {
-        let calls = CALLS.map(|(word, _)| word);
-        let meetings = cross(&POLICIES, &Meeting::ALL.map(|(_, name)| name));
-        let mut intervals = cross(&BEFORE_INTERVALS, &INTERVALS);
-        intervals.extend(SETTLED_SINCE.map(String::from));
-        intervals.extend(NEW_USE.map(String::from));
-        intervals.extend(WRAPPED.map(String::from));
-        let mut times = cross(&calls, &TIMES);
-        times.extend(DEADLINES.map(String::from));
-        times.extend(CLOCK.map(String::from));
-        let draws = cross(&["ask", "tick"], &DRAWS);
-        let broken: Vec<&str> = MUTATIONS.iter().map(|mutation| mutation.name).collect();
-        let tables = vec![
-            table("Kinds", Kind::ALL.map(Kind::word)),
-            table(REFUSALS_TITLE, shown_refusals().map(Refusal::number)),
-            table("Two refusals at once", pairs()),
-            table(
-                "Packets by policy, meaning and stage",
-                cross(&meetings, &STAGES),
-            ),
-            table("Conflicts apart, in ms", intervals),
-            table("Conflicts after the deadline, without a tick", &STAGES[..5]),
-            table("Ten conflicts", RATE),
-            table("Ticks by stage", cross(&STAGES[..5], &LATENESS)),
-            table("Ticks with several deadlines", OVERDUE),
-            table("Slots in use at an accepted call", 0..=4),
-            table("Times", times),
-            table("Draws", draws),
-            table("Addresses asked for", ADDRESSES),
-            table("Packets", PACKETS),
-            table("Freshes", FRESHES),
-            table(
-                "Before the first fresh",
-                ["malformed"].into_iter().chain(calls),
-            ),
-            table("Changed lines", broken),
-            table("Cuts", CUTS),
-        ];
+        let table = |(title, names): (&'static str, Vec<String>)| Table {
+            title,
+            counts: vec![0; names.len()],
+            names,
+        };
+        let tables = places::tables().into_iter().map(table).collect();
         Coverage { tables }
     }
 
@@ -128,27 +88,6 @@ impl Coverage {
         }
         text
     }
-}
-
-fn table<T: ToString>(title: &'static str, names: impl IntoIterator<Item = T>) -> Table {
-    let names: Vec<String> = names.into_iter().map(|name| name.to_string()).collect();
-    let counts = vec![0; names.len()];
-    Table {
-        title,
-        names,
-        counts,
-    }
-}
-
-/// Each of the first with each of the second.
-fn cross<A: ToString, B: ToString>(first: &[A], second: &[B]) -> Vec<String> {
-    let row = |a: &A| -> Vec<String> {
-        second
-            .iter()
-            .map(|b| format!("{} {}", a.to_string(), b.to_string()))
-            .collect()
-    };
-    first.iter().flat_map(row).collect()
 }
 
 /// A title, then "name: count" in lines of moderate length.
