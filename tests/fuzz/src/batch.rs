@@ -1,6 +1,6 @@
 //! One input for both programs: several histories, and how it arrives.
 
-use twin::Refusal;
+use twin::{LINE_MAX, Refusal};
 
 use crate::coverage::Coverage;
 use crate::generator::Generator;
@@ -90,7 +90,7 @@ fn end(generator: &mut Generator, number: u64) {
     generator.coverage.meet(Part::Cuts, name);
     generator.input.pop();
     if number % 6 == 5 {
-        let length = generator.random.between(4097, 70_000) as usize;
+        let length = generator.random.between(LINE_MAX as u64 + 1, 70_000) as usize;
         generator.input.extend(std::iter::repeat_n(b'7', length));
     }
 }

@@ -1,7 +1,7 @@
 //! Writes histories line by line. Each line is answered by the twin as it is
 //! written, so that the next one can fit the state.
 
-use twin::{Answer, FRAME_LEN, Interface, Refusal, Replay, Time};
+use twin::{Answer, FRAME_LEN, Interface, MAX_CONFLICTS, Refusal, Replay, Time};
 
 use crate::Call;
 use crate::book::Book;
@@ -72,7 +72,7 @@ impl Generator {
         match self.temper.opening {
             Opening::Tick => self.say(&Call::Tick { time, draw: 0 }, None),
             Opening::Losses => {
-                for _ in 0..10 {
+                for _ in 0..MAX_CONFLICTS {
                     self.claim(time, 1);
                     self.conflict();
                 }

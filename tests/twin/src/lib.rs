@@ -22,7 +22,7 @@ pub use calls::{
 pub use clock::{Widened, widen};
 pub use frame::{FRAME_LEN, Frame, REQUEST};
 pub use interface::{Interface, MAX_CONFLICTS, Record, SLOTS, Stage};
-pub use line::{Call, Digits, WORDS};
+pub use line::{Call, DIGITS_MAX, Digits, LINE_MAX, WORDS};
 pub use numbers::{Address, Hardware, Time};
 pub use refusal::Refusal;
 pub use replay::{Replay, replay, replay_with};

@@ -7,9 +7,9 @@ use crate::hex;
 use crate::numbers::{Address, Hardware, Time};
 
 /// "At most 4,096 bytes before" byte 10.
-pub(crate) const LINE_MAX: usize = 4_096;
+pub const LINE_MAX: usize = 4_096;
 /// "An even count of digits from 0 to 3,000."
-const DIGITS_MAX: usize = 3_000;
+pub const DIGITS_MAX: usize = 3_000;
 /// "Hardware exactly 12 digits."
 const HARDWARE_DIGITS: usize = 12;
 const TAB: u8 = b'\t';
