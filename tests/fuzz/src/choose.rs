@@ -47,14 +47,13 @@ pub fn ask(random: &mut Random, book: &Book, temper: &Temper) -> Call {
     }
 }
 
-/// After ten conflicts, a time about 60,000 ms after the latest request, also
-/// with 2^32 ms between.
+/// After ten conflicts, a time about 60,000 ms after the latest accepted ask,
+/// also with 2^32 ms between.
 fn asking_time(random: &mut Random, book: &Book) -> Time {
     let state = &book.state;
-    if let (MAX_CONFLICTS, Some(request), true) =
-        (state.conflicts, state.request, random.once_in(2))
+    if let (MAX_CONFLICTS, Some(asked), true) = (state.conflicts, state.request, random.once_in(2))
     {
-        let time = request.plus(interval(random, &WAITED));
+        let time = asked.plus(interval(random, &WAITED));
         if time >= state.latest {
             return time;
         }

@@ -136,10 +136,10 @@ fn ask(coverage: &mut Coverage, book: &Book, time: Time, address: Address) {
     if let Some(row) = ADDRESSES.iter().position(|known| *known == address) {
         coverage.hit(Part::Addresses, row);
     }
-    let Some(request) = book.state.request.filter(|request| *request <= time) else {
+    let Some(asked) = book.state.request.filter(|asked| *asked <= time) else {
         return;
     };
-    let after = time.since(request);
+    let after = time.since(asked);
     match book.state.conflicts {
         MAX_CONFLICTS => after_ten(coverage, after),
         LAST_BUT_ONE if after < RATE_LIMIT_INTERVAL => {
@@ -149,7 +149,7 @@ fn ask(coverage: &mut Coverage, book: &Book, time: Time, address: Address) {
     }
 }
 
-/// Counts an ask this long after the latest request, after ten conflicts.
+/// Counts an ask this long after the latest accepted one, after ten conflicts.
 fn after_ten(coverage: &mut Coverage, after: u64) {
     const WRAPPED_LIMIT: u64 = WRAP + RATE_LIMIT_INTERVAL;
     let name = match after {

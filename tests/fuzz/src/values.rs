@@ -12,7 +12,7 @@ pub const DRAWS: [u32; 4] = [0, SPREAD - 1, SPREAD, u32::MAX];
 /// Conflicts so far apart: none, and about the interval of defences.
 pub const APART: [u64; 4] = [0, DEFEND_INTERVAL - 1, DEFEND_INTERVAL, DEFEND_INTERVAL + 1];
 
-/// Asks so long after the latest request, after ten conflicts.
+/// After ten conflicts, asks so long after the latest accepted one.
 pub const WAITED: [u64; 3] = [
     RATE_LIMIT_INTERVAL - 1,
     RATE_LIMIT_INTERVAL,
