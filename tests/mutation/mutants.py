@@ -1,5 +1,7 @@
 """The mutants of a source: small wrong edits of its code, each one stretch of text replaced by another."""
 import re
+from collections import Counter
+
 from names import Names
 from places import Places
 
@@ -73,7 +75,16 @@ def mutants_of(source, declared):
         if m.new != m.old and (m.start, m.end, m.new) not in seen:
             seen.add((m.start, m.end, m.new))
             unique.append(m)
+    number_alike(unique)
     return unique
+
+
+def number_alike(mutants):
+    """The edits of a function that read the same are told apart by a place `#1`, `#2` and so on, in the order of the text."""
+    counts = Counter()
+    for m in mutants:
+        counts[m.function, m.kind, m.swap] += 1
+        m.places.add(f"#{counts[m.function, m.kind, m.swap]}")
 
 
 class Edits:
