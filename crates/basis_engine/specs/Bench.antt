@@ -80,7 +80,7 @@ another = record { 0 = 0x02000000000b }
 abbrev pub ipv4 : Ipv4Address
 ipv4 = record { 0 = 0xc0000207 }
 
--- An interface that holds 192.0.2.7 in slot 0, with this policy, stage, count and request.
+-- An interface that holds 192.0.2.7 in slot 0, with this policy, stage, count and time of the latest ask.
 abbrev pub holding : ℕ → Stage → ℕ → Moment → Interface
 holding policy stage count asked =
     record {

@@ -110,7 +110,7 @@ pub record WentThrough (row : Timing) (c : Claim) : Type 0 where
   pub announcedAt : Time
   pub before : List Mark
   pub split : c .marks ≡ since ++ (mark anAnnouncement announcedAt ∷ before)
-  pub threeProbes : length (timesOf aProbe before) ≡ row .probeNum
+  pub allProbes : length (timesOf aProbe before) ≡ row .probeNum
   pub probesSpaced : Spaced (row .probeMin) (timesOf aProbe before)
   pub announcedAfter : IsAfter (row .announceWait) (timesOf aProbe before) (announcedAt .0)
   pub undisturbed : timesOf aConflict before ≡ []
