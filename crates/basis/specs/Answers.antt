@@ -65,17 +65,22 @@ kindWord Lost = 108 ∷ 111 ∷ 115 ∷ 116 ∷ []
 kindWord Kept = 107 ∷ 101 ∷ 112 ∷ 116 ∷ []
 kindWord Dropped = 100 ∷ 114 ∷ 111 ∷ 112 ∷ 112 ∷ 101 ∷ 100 ∷ []
 
--- The kinds whose frame is in the out buffer.
-abbrev pub hasFrame : Kind → Bool
-hasFrame Fresh = false
-hasFrame Taken = false
-hasFrame Nothing = false
-hasFrame Probe = true
-hasFrame Announce = true
-hasFrame Defend = true
-hasFrame Lost = false
-hasFrame Kept = false
-hasFrame Dropped = false
+-- What a call of each kind has put into the out buffer: nothing, a frame that was due, or a defence.
+pub data Sending : Type 0 where
+  sendsNothing : Sending
+  sendsDue : Sending
+  sendsDefence : Sending
+
+abbrev pub sendingOf : Kind → Sending
+sendingOf Fresh = sendsNothing
+sendingOf Taken = sendsNothing
+sendingOf Nothing = sendsNothing
+sendingOf Probe = sendsDue
+sendingOf Announce = sendsDue
+sendingOf Defend = sendsDefence
+sendingOf Lost = sendsNothing
+sendingOf Kept = sendsNothing
+sendingOf Dropped = sendsNothing
 
 -- "The slot concerned or none, and the smallest deadline left or none."
 abbrev pub slotOf : SlotNumber → Option ℕ
