@@ -1,6 +1,6 @@
 // Reading IPv4 addresses: "four such numbers up to 255, parted by dots". "Each read whole or refused whole."
-use parse_numbers::Reading;
 use basis::Ipv4Address;
+use parse_numbers::Reading;
 ghost use Prim.Native.Nat.{_+_, _*_, _<_};
 ghost use mathlib.Core.Path.{_≡_};
 ghost use Rattle.basis_lines.specs.Numbers as Numbers;

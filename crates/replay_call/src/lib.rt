@@ -1,11 +1,11 @@
 // A call made, and the text of its answer.
-use engine_calls::Call;
-use basis_lines::AnsweredLine;
 use basis::Answer;
 use basis::HardwareAddress;
 use basis::Interface;
 use basis::Refusal;
 use basis::Time;
+use basis_lines::AnsweredLine;
+use engine_calls::Call;
 ghost use Prim.Native.Nat.{_≤_};
 ghost use mathlib.Core.Path.{_≡_};
 ghost use mathlib.Core.Option.{some};
@@ -34,7 +34,13 @@ fn put_answer(answer: Answer, frame: &[u8; 28], out: &mut [u8]) -> usize
 {
     match answer {
         Answer::Refused(refusal) => print_answer::refused(refusal, out),
-        Answer::Accepted { kind, slot, next } => print_answer::accepted(kind, slot, next, frame, out),
+        Answer::Accepted { kind, slot, next } => print_answer::accepted(
+            kind,
+            slot,
+            next,
+            frame,
+            out,
+        ),
     }
 }
 

@@ -1,8 +1,8 @@
 // A line's command carried out, on a state of which it is known whether it is sound.
-use parse_forms::Command;
-use basis_lines::AnsweredLine;
-use replay_plans::Plan;
 use basis::Interface;
+use basis_lines::AnsweredLine;
+use parse_forms::Command;
+use replay_plans::Plan;
 ghost use Prim.Native.Nat.{_≤_};
 ghost use mathlib.Core.Path.{_≡_};
 ghost use lib.ListN.{length};

@@ -6,9 +6,9 @@
 // with the reason: no further line is read, and the output may end inside an answer, so that one without its byte 10 counts for
 // nothing. The system ends a program that writes to a pipe which nobody reads any more. A program of this language has no exit
 // status of its own: it is 0 after a failure too.
+use basis_lines::Stream;
 use libc::STDIN_FILENO;
 use libc::STDOUT_FILENO;
-use basis_lines::Stream;
 ghost use Prim.Native.Nat.{_≤_};
 ghost use mathlib.Core.Path.{_≡_};
 ghost use mathlib.Core.Bool.{true, false};

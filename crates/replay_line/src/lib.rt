@@ -1,7 +1,7 @@
 // A line answered: its call made, and the answer written.
-use basis_lines::LONGEST_ANSWER;
-use basis_lines::AnsweredLine;
 use basis::Interface;
+use basis_lines::AnsweredLine;
+use basis_lines::LONGEST_ANSWER;
 ghost use mathlib.Core.Path.{_≡_};
 ghost use mathlib.Core.Bool.{cond};
 ghost use lib.ListN.{length};

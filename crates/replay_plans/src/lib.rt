@@ -1,8 +1,8 @@
 // What a command asks for.
-use engine_calls::Call;
-use parse_forms::Command;
 use basis::HardwareAddress;
 use basis::Time;
+use engine_calls::Call;
+use parse_forms::Command;
 ghost use Rattle.replay_plans.specs.Plans.{Plans};
 
 // What a command asks for: a refusal, a new interface, or a call, with how many bytes of a packet there are.

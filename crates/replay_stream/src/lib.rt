@@ -1,12 +1,12 @@
 // A replay whose input arrives in pieces: the lines at hand are answered, and what is left of the input is to come again with the
 // next piece.
-use basis_lines::LONGEST_ANSWER;
-use basis_lines::LONGEST_LINE;
-use basis_lines::Stream;
 use basis::HardwareAddress;
 use basis::Interface;
 use basis::Moment;
 use basis::Time;
+use basis_lines::LONGEST_ANSWER;
+use basis_lines::LONGEST_LINE;
+use basis_lines::Stream;
 ghost use mathlib.Core.Path.{_≡_};
 ghost use mathlib.Core.Bool.{cond};
 ghost use lib.ListN.{length};

@@ -1,6 +1,6 @@
 // What a turn of the stream's loop is made of: the next line, whether the state is sound, and the line's answer.
-use basis_lines::AnsweredLine;
 use basis::Interface;
+use basis_lines::AnsweredLine;
 ghost use Prim.Native.Nat.{_+_, _≤_};
 ghost use mathlib.Core.Path.{_≡_};
 ghost use mathlib.Core.Bool.{true};
