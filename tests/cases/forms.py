@@ -113,7 +113,7 @@ NUMBERS = malformed('a leading zero', [
     b'drop\t0\t' + FULL_WIDTH_1, b'drop\t0\t\xef\xbc\x90', b'drop\t0\t\xd9\xa0', b'packet\t0\t' + FRAME[:-1] + FULL_WIDTH_1,
 ])
 
-# Whole numbers up to 2^64 - 1 make the call; its own refusal shows that. From 2^64 on there is no call.
+# Whole numbers up to 2^64 - 1 make the call; its own refusal shows that. From 2^64 on there is no call (reading whole-numbers).
 LARGE_NUMBERS = [
     (b'tick\t' + TWO_64_LESS_1 + b'\t0', b'refused 3', 'time 2^64 - 1'),
     (b'ask\t' + TWO_64_LESS_1 + b'\t192.0.2.8\t2\t0', b'refused 3', 'time 2^64 - 1'),
@@ -143,7 +143,7 @@ LARGE_NUMBERS = [
     (b'tick\t0\t4294967295', b'ok none - 1000 -', 'draw 2^32 - 1'),
     (b'ask\t0\t192.0.2.8\t2\t4294967295', b'ok taken 1 619 -', 'draw 2^32 - 1: wait 619'),
     (b'drop\t0\t1', b'ok dropped 1 1000 -', 'as before'),
-] + malformed('a draw of 2^32 or more', [
+] + malformed('a draw of 2^32 or more, needed or not (reading unused-draw)', [
     b'tick\t0\t4294967296', b'tick\t0\t4294967297', b'tick\t0\t4294967300', b'tick\t0\t4300000000', b'tick\t0\t9999999999', b'tick\t0\t10000000000',
     b'tick\t0\t42949672950', b'tick\t0\t' + TWO_64_LESS_1, b'tick\t0\t' + TWO_64, b'tick\t0\t' + TWO_64_AND_1, b'tick\t0\t' + TWO_128_AND_1,
     b'tick\t0\t1' + b'0' * 99, b'ask\t0\t192.0.2.8\t2\t4294967296', b'ask\t0\t192.0.2.8\t2\t4294967297', b'ask\t0\t192.0.2.8\t2\t10000000000',
@@ -152,7 +152,7 @@ LARGE_NUMBERS = [
 ])
 
 ADDRESSES = [
-    (b'ask\t0\t0.0.0.0\t2\t0', b'refused 8', 'in the form'),
+    (b'ask\t0\t0.0.0.0\t2\t0', b'refused 8', 'in the form (reading addresses-in-form)'),
     (b'ask\t0\t255.255.255.255\t2\t0', b'refused 8', 'in the form'),
     (b'ask\t0\t192.0.2.255\t2\t0', b'ok taken 1 0 -', 'in the form'),
     (b'drop\t0\t1', b'ok dropped 1 1000 -', 'as before'),
@@ -222,7 +222,7 @@ BYTES = [
     b'packet\t0\t' + FRAME[:27] + b'g' + FRAME[28:], b'packet\t0\tg' + FRAME[1:], b'packet\t0\t' + FRAME[:55] + b'\x17',
 ])
 
-FOREIGN_ENDS = malformed('a carriage return', [
+FOREIGN_ENDS = malformed('a carriage return (reading carriage-return)', [
     b'tick\t0\t0\r', b'ask\t0\t192.0.2.8\t2\t0\r', b'packet\t0\t' + FRAME + b'\r', b'drop\t0\t0\r', b'fresh\t02000000000a\r', b'\rtick\t0\t0', b'tick\r\t0\t0',
     b'tick\t0\r\t0', b'tick\t0\t0\r\r', b'packet\t0\t\r',
 ]) + malformed('NUL', [
@@ -236,8 +236,8 @@ FOREIGN_ENDS = malformed('a carriage return', [
     b'tick\t0\t0\\n', b'tick\t0\t0;', b'tick\t0\t0#', b'tick\t0\t0 # why', b'tick\t0\t0tick\t0\t0', b'tick\t0\t0\x1b[0m', b'tick\t0\t\x08' + b'0',
 ])
 
-# A line in the form has at most 3,028 bytes, so each of these is 14, once. What would be in the form after a cut at a power of two,
-# or before the filling, is there to show that a long line is one record.
+# A line in the form has at most 3,028 bytes, so each of these is 14, once (reading line-limit). What would be in the form after a cut
+# at a power of two, or before the filling, is there to show that a long line is one record.
 TICK = b'tick\t9\t0'
 LONG = malformed('long, up to 4,096 bytes', [
     b'x' * 4095, b'x' * 4096, TICK + b' ' * 4088, b' ' * 4088 + TICK, b'tick\t0\t' + b'0' * 4089, b'\t' * 4096, b'\x00' * 4096,
@@ -258,6 +258,6 @@ LAST = [
     (b'packet\t0\t' + FRAME, b'ok lost 0 - -', 'the frame is a conflict after all'),
     (b'tick\t0\t0', b'ok none - - -', 'in the form'),
 ]
-UNENDED = (b'tick\t0\t0', b'refused 14', 'reading 11: in the form, but unended')
+UNENDED = (b'tick\t0\t0', b'refused 14', 'in the form, but unended (reading unended-line)')
 
 ROWS = HELD + WORDS + TABS + NUMBERS + LARGE_NUMBERS + ADDRESSES + HARDWARE + BYTES + FOREIGN_ENDS + LONG + LAST

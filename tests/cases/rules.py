@@ -1,7 +1,7 @@
 """Document 01's rules and refusals, as far as a replay shows them. Each section begins with a fresh of its own.
 
-Refusal 5 is not here: it is given for an out buffer under 28 bytes, and the replay always lends 28. W3, W4 and W5 are not
-either: they are about the board's clock, which no replay line reaches.
+Refusal 5 is not here: it is given for an out buffer under 28 bytes, and the replay always lends 28 (reading replay-lends-28). W3, W4
+and W5 are not either: they are about the board's clock, which no replay line reaches.
 """
 
 from whole import ANNOUNCE_7, PROBE_7
@@ -65,6 +65,7 @@ HARDWARE = [
     (b'tick\t0\t0', b'ok probe 0 1000 0001080006040001fe123456789a00000000000000000000c0000207', 'our hardware in our probe'),
 ]
 
+# A refused fresh changes nothing (reading refused-fresh).
 REFUSED_FRESH = in_use_7(b'2') + [
     (b'packet\t20000\t' + THEIR_ANNOUNCE_7, b'ok defend 0 - ' + ANNOUNCE_7, 'in use'),
     (b'fresh\t030000000000', b'refused 2', 'refused'),
@@ -88,7 +89,7 @@ W1 = [
     (b'tick\t2000\t1001', b'ok probe 0 3000 ' + PROBE_7, 'as a gap: 1,000'),
     (b'tick\t3000\t1000', b'ok probe 0 5000 ' + PROBE_7, 'after the third probe the draw counts for nothing'),
     (b'tick\t5000\t777', b'ok announce 0 7000 ' + ANNOUNCE_7, 'nor here'),
-    (b'tick\t7000\t777', b'ok announce 0 - ' + ANNOUNCE_7, 'reading 9: the second one is an announce too'),
+    (b'tick\t7000\t777', b'ok announce 0 - ' + ANNOUNCE_7, 'the second one is an announce too (reading both-announce)'),
 ]
 
 W2 = [
@@ -168,10 +169,10 @@ W9 = [
     (b'ask\t220000\t192.0.2.10\t1\t0', b'ok taken 2 100000 -', '60,000'),
     (b'drop\t900000\t0', b'ok dropped 0 100000 -', 'a long time without a conflict'),
     (b'ask\t900000\t192.0.2.7\t1\t0', b'ok taken 0 100000 -', 'long after the last request'),
-    (b'ask\t900001\t192.0.2.8\t1\t0', b'refused 12', 'reading 7: the count never falls'),
+    (b'ask\t900001\t192.0.2.8\t1\t0', b'refused 12', 'still ten (reading count-never-falls)'),
     FRESH,
     (b'ask\t0\t192.0.2.7\t1\t0', b'ok taken 0 0 -', 'a new port'),
-    (b'ask\t0\t192.0.2.8\t1\t0', b'ok taken 1 0 -', 'reading 7: with a count of 0'),
+    (b'ask\t0\t192.0.2.8\t1\t0', b'ok taken 1 0 -', 'with a count of 0 (reading count-never-falls)'),
 ]
 
 
@@ -182,11 +183,11 @@ def ten_conflicts_7(why):
 
 
 W9_IN_USE = in_use_7(b'3') + ten_conflicts_7('ten of one claim') + [
-    (b'packet\t50000\t' + THEIR_ANNOUNCE_7, b'ok defend 0 - ' + ANNOUNCE_7, 'a defence is no request: reading 8'),
+    (b'packet\t50000\t' + THEIR_ANNOUNCE_7, b'ok defend 0 - ' + ANNOUNCE_7, 'a defence is no ask (reading request-is-an-ask)'),
     (b'ask\t60099\t192.0.2.8\t2\t0', b'refused 12', 'the request was at 100'),
     (b'ask\t100000\t192.0.2.8\t2\t0', b'ok taken 1 100000 -', 'W9: the request at 100,000 with count 10'),
     (b'ask\t159999\t192.0.2.9\t2\t0', b'refused 12', 'W9'),
-    (b'tick\t159999\t0', b'ok probe 1 160999 ' + PROBE_8, 'a probe is no request either: reading 8'),
+    (b'tick\t159999\t0', b'ok probe 1 160999 ' + PROBE_8, 'nor is a probe (reading request-is-an-ask)'),
     (b'ask\t160000\t192.0.2.9\t2\t5', b'ok taken 2 160005 -', 'W9'),
 ] + in_use_7(b'3') + ten_conflicts_7('ten of one claim') + [
     (b'drop\t60000\t0', b'ok dropped 0 - -', 'a drop is no request'),
@@ -201,7 +202,7 @@ W10 = [
     (b'ask\t100\t192.0.2.7\t2\t500', b'ok taken 0 600 -', 'probing'),
     (b'packet\t200\t' + PROBE_7, b'ok none - 600 -', 'W10: our own probe, with none sent yet'),
     (b'tick\t600\t0', b'ok probe 0 1600 ' + PROBE_7, 'first probe'),
-    (b'packet\t600\t' + PROBE_7, b'ok none - 1600 -', 'W10: our own echoed probe'),
+    (b'packet\t600\t' + PROBE_7, b'ok none - 1600 -', 'W10: our own echoed probe (reading none-has-no-slot)'),
     (b'packet\t601\t' + PROBE_7 + b'00' * 18, b'ok none - 1600 -', 'W10, padded'),
     (b'packet\t1700\t' + PROBE_7, b'ok none - 1600 -', 'W10, late'),
     (b'tick\t1700\t0', b'ok probe 0 2700 ' + PROBE_7, 'still held'),
@@ -213,7 +214,7 @@ W10 = [
 ]
 
 W11 = in_use_7(b'1') + [
-    (b'packet\t7000\t' + THEIR_PROBE_7, b'ok none - - -', "W11: another's probe for a settled address"),
+    (b'packet\t7000\t' + THEIR_PROBE_7, b'ok none - - -', "W11: another's probe for a settled address (reading none-has-no-slot)"),
     (b'packet\t7001\t' + ASKED_FOR_7, b'ok none - - -', 'nor a question'),
     (b'packet\t7002\t' + THEIR_REPLY_7, b'ok lost 0 - -', 'a use is one'),
 ] + announced_once_7(b'1') + [
@@ -226,7 +227,7 @@ W12 = [
     FRESH,
     (b'ask\t0\t223.255.255.255\t1\t0', b'ok taken 0 0 -', 'W12: allowed'),
     (b'ask\t0\t224.0.0.0\t1\t0', b'refused 8', 'W12'),
-    (b'ask\t0\t0.0.0.0\t1\t0', b'refused 8', 'reading 13'),
+    (b'ask\t0\t0.0.0.0\t1\t0', b'refused 8', 'in the form (reading addresses-in-form)'),
     (b'ask\t0\t0.255.255.255\t1\t0', b'refused 8', 'first byte 0'),
     (b'ask\t0\t1.0.0.0\t1\t0', b'ok taken 1 0 -', 'first byte 1'),
     (b'ask\t0\t126.255.255.255\t1\t0', b'ok taken 2 0 -', 'below 127'),
@@ -236,7 +237,7 @@ W12 = [
     (b'ask\t0\t128.0.0.0\t1\t0', b'ok taken 3 0 -', 'above 127'),
     (b'ask\t0\t239.255.255.255\t1\t0', b'refused 8', 'multicast'),
     (b'ask\t0\t240.0.0.0\t1\t0', b'refused 8', 'above'),
-    (b'ask\t0\t255.255.255.255\t1\t0', b'refused 8', 'reading 13'),
+    (b'ask\t0\t255.255.255.255\t1\t0', b'refused 8', 'in the form (reading addresses-in-form)'),
     (b'tick\t0\t0', b'ok probe 0 0 000108000604000102000000000a00000000000000000000dfffffff', 'the address in the frame'),
     (b'tick\t0\t0', b'ok probe 1 0 000108000604000102000000000a0000000000000000000001000000', 'the address in the frame'),
     (b'tick\t0\t0', b'ok probe 2 0 000108000604000102000000000a000000000000000000007effffff', 'the address in the frame'),
@@ -252,9 +253,9 @@ TIMES_ABOVE = [
     (b'drop\t281474976710656\t0', b'refused 3', 'above the range'),
     (b'tick\t18446744073709551615\t0', b'refused 3', '2^64 - 1'),
     (b'tick\t0\t0', b'ok none - - -', 'none of these moved the time'),
-    (b'ask\t281474976710655\t192.0.2.7\t2\t1000', b'ok taken 0 281474976711655 -', 'the last time; reading 3: the deadline is printed'),
-    (b'tick\t281474976710655\t0', b'ok none - 281474976711655 -', 'reading 3: it is not served'),
-    (b'tick\t281474976711655\t0', b'refused 3', 'reading 3: nor ever'),
+    (b'ask\t281474976710655\t192.0.2.7\t2\t1000', b'ok taken 0 281474976711655 -', 'at the last time; printed (reading deadline-above-range)'),
+    (b'tick\t281474976710655\t0', b'ok none - 281474976711655 -', 'it is not served (reading deadline-above-range)'),
+    (b'tick\t281474976711655\t0', b'refused 3', 'nor ever (reading deadline-above-range)'),
     (b'tick\t281474976710654\t0', b'refused 4', 'below the latest'),
     (b'packet\t281474976710655\t' + THEIR_PROBE_7, b'ok lost 0 - -', 'a conflict as usual'),
     (b'ask\t281474976710655\t192.0.2.7\t2\t0', b'ok taken 0 281474976710655 -', 'a deadline at the last time'),
@@ -284,7 +285,7 @@ TIMES_BEYOND_32_BITS = [
 
 TIMES_BELOW = [
     FRESH,
-    (b'tick\t500\t0', b'ok none - - -', 'reading 10: sets the time'),
+    (b'tick\t500\t0', b'ok none - - -', 'sets the time (reading accepted-sets-time)'),
     (b'tick\t499\t0', b'refused 4', 'below the latest'),
     (b'ask\t499\t192.0.2.7\t2\t0', b'refused 4', 'below the latest'),
     (b'packet\t499\t' + UNRELATED, b'refused 4', 'below the latest'),
@@ -293,7 +294,7 @@ TIMES_BELOW = [
     (b'tick\t500\t0', b'ok none - - -', 'the same time again'),
     (b'ask\t600\t192.0.2.7\t2\t1000', b'ok taken 0 1600 -', 'sets the time'),
     (b'tick\t599\t0', b'refused 4', 'below the latest'),
-    (b'packet\t700\t' + UNRELATED, b'ok none - 1600 -', 'reading 10: sets the time'),
+    (b'packet\t700\t' + UNRELATED, b'ok none - 1600 -', 'sets the time (reading accepted-sets-time)'),
     (b'tick\t699\t0', b'refused 4', 'below the latest'),
     (b'packet\t800\t' + PROBE_7, b'ok none - 1600 -', 'our echo sets the time'),
     (b'tick\t799\t0', b'refused 4', 'below the latest'),
@@ -302,9 +303,9 @@ TIMES_BELOW = [
     (b'packet\t1700\t' + THEIR_PROBE_7, b'ok lost 0 - -', 'sets the time'),
     (b'tick\t1699\t0', b'refused 4', 'below the latest'),
     (b'ask\t1800\t192.0.2.7\t2\t1000', b'ok taken 0 2800 -', 'held again'),
-    (b'drop\t1900\t0', b'ok dropped 0 - -', 'reading 10: sets the time'),
+    (b'drop\t1900\t0', b'ok dropped 0 - -', 'sets the time (reading accepted-sets-time)'),
     (b'tick\t1899\t0', b'refused 4', 'below the latest'),
-    (b'ask\t5000\t224.0.0.0\t2\t0', b'refused 8', 'reading 10: what is refused does not'),
+    (b'ask\t5000\t224.0.0.0\t2\t0', b'refused 8', 'what is refused does not (reading accepted-sets-time)'),
     (b'ask\t5000\t192.0.2.7\t0\t0', b'refused 9', 'does not'),
     (b'packet\t5000\t00', b'refused 6', 'does not'),
     (b'packet\t5000\t' + b'00' * 28, b'refused 7', 'does not'),
@@ -317,8 +318,8 @@ TIMES_BELOW = [
 PACKETS_REFUSED = [
     FRESH,
     (b'ask\t0\t192.0.2.7\t2\t1000', b'ok taken 0 1000 -', 'each frame below would be a conflict'),
-    (b'packet\t0\t', b'refused 6', 'reading 4: no bytes is in the form'),
-    (b'packet\t0', b'refused 14', 'reading 4: no field is not'),
+    (b'packet\t0\t', b'refused 6', 'no bytes is in the form (reading empty-packet-field)'),
+    (b'packet\t0', b'refused 14', 'no field is not (reading empty-packet-field)'),
     (b'packet\t0\t00', b'refused 6', '1 byte'),
     (b'packet\t0\t' + THEIR_ANNOUNCE_7[:54], b'refused 6', '27 bytes'),
     (b'packet\t0\t' + b'ff' * 27, b'refused 6', '6 before 7'),
@@ -358,9 +359,9 @@ POLICIES = [
     FRESH,
     (b'ask\t0\t192.0.2.7\t0\t0', b'refused 9', 'policy 0'),
     (b'ask\t0\t192.0.2.7\t4\t0', b'refused 9', 'policy 4'),
-    (b'ask\t0\t192.0.2.7\t257\t0', b'refused 9', 'reading 12: 257 is not 1'),
-    (b'ask\t0\t192.0.2.7\t65538\t0', b'refused 9', 'reading 12: 2^16 + 2 is not 2'),
-    (b'ask\t0\t192.0.2.7\t4294967299\t0', b'refused 9', 'reading 12: 2^32 + 3 is not 3'),
+    (b'ask\t0\t192.0.2.7\t257\t0', b'refused 9', '257 is not 1 (reading whole-numbers)'),
+    (b'ask\t0\t192.0.2.7\t65538\t0', b'refused 9', '2^16 + 2 is not 2 (reading whole-numbers)'),
+    (b'ask\t0\t192.0.2.7\t4294967299\t0', b'refused 9', '2^32 + 3 is not 3 (reading whole-numbers)'),
     (b'ask\t0\t192.0.2.7\t18446744073709551615\t0', b'refused 9', '2^64 - 1'),
     (b'tick\t0\t0', b'ok none - - -', 'nothing was taken'),
     (b'ask\t0\t192.0.2.7\t1\t0', b'ok taken 0 0 -', 'policy 1'),
@@ -381,7 +382,7 @@ DROPS = [
     (b'drop\t0\t5', b'refused 13', 'above 3'),
     (b'drop\t0\t256', b'refused 13', '2^8 is not 0'),
     (b'drop\t0\t65536', b'refused 13', '2^16 is not 0'),
-    (b'drop\t0\t4294967296', b'refused 13', 'reading 12: 2^32 is not 0'),
+    (b'drop\t0\t4294967296', b'refused 13', '2^32 is not 0 (reading whole-numbers)'),
     (b'drop\t0\t4294967299', b'refused 13', '2^32 + 3 is not 3'),
     (b'drop\t0\t9223372036854775808', b'refused 13', '2^63'),
     (b'drop\t0\t18446744073709551615', b'refused 13', '2^64 - 1'),
@@ -454,6 +455,7 @@ FULL = [
     (b'ask\t7\t192.0.2.10\t1\t0', b'refused 11', 'full again'),
 ]
 
+# Of two numbers that apply the lower is given (reading lowest-number).
 LOWEST_NUMBER = [
     FRESH,
     (b'tick\t100\t0', b'ok none - - -', 'the latest time is 100'),
@@ -517,7 +519,7 @@ ORDER = [
     (b'ask\t0\t192.0.2.9\t2\t300', b'ok taken 2 300 -', 'slot 2, a tie'),
     (b'ask\t0\t192.0.2.10\t2\t900', b'ok taken 3 300 -', 'slot 3'),
     (b'tick\t299\t0', b'ok none - 300 -', 'early'),
-    (b'tick\t600\t0', b'ok probe 1 300 ' + PROBE_8, 'the lowest slot of the tie; reading 5: 300 is left, though it has passed'),
+    (b'tick\t600\t0', b'ok probe 1 300 ' + PROBE_8, 'the lowest slot of the tie; 300 is left, though it has passed (reading next-of-all-slots)'),
     (b'tick\t600\t500', b'ok probe 2 500 ' + PROBE_9, 'the other one'),
     (b'tick\t600\t0', b'ok probe 0 900 ' + PROBE_7, 'the later one'),
     (b'tick\t600\t0', b'ok none - 900 -', 'slot 3 is not due'),
@@ -619,7 +621,7 @@ USABLE = in_use_7(b'3') + [
     (b'packet\t50009\t00010800060400010200000000bbc1000207000000000000c0000207', b'ok none - - -', 'another first byte'),
 ]
 
-# Reading 6: a defence leaves the stage and the deadline, and its conflict time survives the step to settled.
+# A defence leaves the stage and the deadline, and its conflict time survives the step to settled (reading defence-keeps-deadline).
 DEFENCE_BEFORE_SETTLED = announced_once_7(b'2') + [
     (b'packet\t5000\t' + THEIR_ANNOUNCE_7, b'ok defend 0 6600 ' + ANNOUNCE_7, 'the deadline stays'),
     (b'tick\t6599\t0', b'ok none - 6600 -', 'early'),
@@ -665,13 +667,13 @@ NEW_USE = in_use_7(b'2') + [
     (b'packet\t24003\t' + THEIR_ANNOUNCE_7, b'ok defend 0 26002 ' + ANNOUNCE_7, 'the first conflict of this use'),
 ]
 
-# Reading 14: a late echo of our own earlier announcement.
+# A late echo of our own earlier announcement (reading late-echo).
 LATE_ECHO = in_use_7(b'2') + [
     (b'drop\t7000\t0', b'ok dropped 0 - -', 'given back'),
     (b'packet\t7000\t' + ANNOUNCE_7, b'ok none - - -', 'not held'),
     (b'ask\t7001\t192.0.2.7\t2\t1000', b'ok taken 0 8001 -', 'claimed again'),
     (b'packet\t7002\t' + PROBE_7, b'ok none - 8001 -', 'an echoed probe is no conflict'),
-    (b'packet\t7003\t' + ANNOUNCE_7, b'ok lost 0 - -', 'reading 14: an echoed announcement is one'),
+    (b'packet\t7003\t' + ANNOUNCE_7, b'ok lost 0 - -', 'an echoed announcement is one (reading late-echo)'),
 ]
 
 ROWS = (

@@ -4,6 +4,6 @@ use mathlib.Core.Bool.{Bool}
 use lib.Dec.{ltb}
 use Rattle.basis.specs.declared.HardwareAddress.{HardwareAddress}
 
--- Whether a number is a hardware address, which has 48 bits (docs/DECISIONS.md, 2).
+-- Whether a number is a hardware address, which has 48 bits (reading hardware-48-bits).
 abbrev pub isHardware : HardwareAddress → Bool
 isHardware address = ltb (address .0) (2 ^ 48)

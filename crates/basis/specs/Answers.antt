@@ -32,7 +32,7 @@ refusalNumber SlotNotHeld = 13
 refusalNumber LineMalformed = 14
 
 -- "The lowest number that applies is given, and none is given otherwise": `5 if a else 7 if b else none` is the first that
--- applies, and its rows stand in rising order (but for the clock's, whose section has an order of its own).
+-- applies, and its rows stand in rising order, but for the clock's, whose section has its own (reading lowest-number).
 infixr 20 _if_else_
 abbrev pub _if_else_ : ℕ → Bool → Option ℕ → Option ℕ
 n if true else rest = some n

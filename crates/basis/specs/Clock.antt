@@ -35,7 +35,7 @@ unfoldable pub clockStep : ℕ → ℕ → ℤ
 clockStep latest reading = cond (leb latest lastTime) (signed (wrapped latest reading)) (pos 0)
 
 -- "A latest time already above the range is refusal 3". "Negative: refusal 4. Else the new time is the latest plus the step, or
--- refusal 3 if above the range."
+-- refusal 3 if above the range." (reading clock-order)
 unfoldable pub clockRefusal : ℕ → ℕ → Option ℕ
 clockRefusal latest reading =
     3 if ltb lastTime latest else

@@ -77,16 +77,17 @@ isKnownFrame bytes = sameBytes (take 6 bytes) (take 6 requestHeader) && isKnownO
 unfoldable pub readRefusal : List ℕ → Option ℕ
 readRefusal bytes = 6 if ltb (length bytes) frameLength else 7 if not (isKnownFrame bytes) else none
 
--- Read, for any bytes.
+-- Read, for any bytes (reading any-addresses).
 unfoldable pub readOf : List ℕ → Report Frame
 readOf bytes = reported (readRefusal bytes) (frameOf bytes)
 
--- Whether a frame can be written: operation 1 or 2, and two hardware addresses of 48 bits.
+-- Whether a frame can be written: operation 1 or 2, and two hardware addresses of 48 bits
+-- (readings any-addresses, hardware-48-bits).
 unfoldable pub isWritable : Frame → Bool
 isWritable f = isKnownOperation (f .operation) && isHardware (f .sender .hardware) && isHardware (f .target .hardware)
 
 -- The refusal of a write: 5, "out buffer under 28 bytes"; 7, "operation not 1 or 2". Document 01 is silent on a number that
--- is no hardware address: it is 7 too (docs/DECISIONS.md, 2).
+-- is no hardware address: it is 7 too (readings room-by-length, hardware-48-bits).
 unfoldable pub writeRefusal : Frame → ℕ → Option ℕ
 writeRefusal f room = 5 if ltb room frameLength else 7 if not (isWritable f) else none
 

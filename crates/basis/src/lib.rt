@@ -4,7 +4,8 @@
 // An IPv4 address, its first byte the most significant.
 pub struct Ipv4Address(pub u32);
 
-// A time in whole milliseconds. A larger number than the last time is refused, but a deadline may be larger.
+// A time in whole milliseconds. A larger number than the last time is refused, but a deadline may be larger
+// (reading deadline-above-range).
 pub struct Time(pub u64);
 
 pub const LAST_TIME: u64 = 281_474_976_710_655;
@@ -31,7 +32,8 @@ pub const DEFEND_INTERVAL: u64 = 10_000;
 // No deadline of a sound state lies further ahead.
 pub const LONGEST_DELAY: u64 = 2_000;
 
-// A hardware address: 48 bits, its first byte the most significant. A larger number stands for no address and is refused.
+// A hardware address: 48 bits, its first byte the most significant. A larger number stands for no address and is refused
+// (reading hardware-48-bits).
 pub struct HardwareAddress(pub u64);
 
 // The first number above them: 2^48.
@@ -76,7 +78,7 @@ pub enum Stage {
     Settled { conflict: Moment },
 }
 
-// A slot's record. In a free one address and policy say nothing.
+// A slot's record. In a free one address and policy say nothing (readings free-is-a-stage, any-record).
 pub struct Record {
     pub address: Ipv4Address,
     pub policy: u8,

@@ -35,7 +35,8 @@ pub record Outcome : Type 0 where
 abbrev pub renewed : Interface → Time → List Record → Interface
 renewed s time records = changed s time (s .asked) (s .conflicts) records
 
--- "Only the latest time changes": a tick with nothing due, and a packet that is no conflict.
+-- "Only the latest time changes": a tick with nothing due, and a packet that is no conflict
+-- (readings accepted-sets-time, none-has-no-slot).
 abbrev pub nothing : Interface → Time → Outcome
 nothing s time = record { kind = Nothing; slot = none; state = renewed s time (s .records); frame = none }
 
@@ -44,7 +45,7 @@ unfoldable pub freshOutcome : Setup → Outcome
 freshOutcome setup = record { kind = Fresh; slot = none; state = newInterface setup; frame = none }
 
 -- Ask: "takes the lowest free slot, probing with none sent, deadline time + draw mod 1,001. This time becomes that of the
--- latest request."
+-- latest request." (reading request-is-an-ask)
 abbrev pub newClaim : Timing → Time → Ipv4Address → ℕ → ℕ → Record
 newClaim row time address policy draw =
     record { address = address; policy = policy; stage = Probing 0 (after time (wait row draw)) }
@@ -60,7 +61,7 @@ askOutcome s time address policy draw =
     }
 
 -- Tick, the frame that is due at a stage: probes, "then the first announcement", "then the second". A free or settled record has
--- no deadline and is never due.
+-- no deadline and is never due (reading both-announce).
 pub record DueFrame : Type 0 where
   pub kind : Kind
   pub frame : Option Frame
@@ -80,7 +81,7 @@ dueFrame row setup r = dueFrameAt row setup (r .address) (r .stage)
 
 -- Tick, what its sending leaves. "First or second probe: next deadline time + gap. Third: time + 2,000. Then the first
 -- announcement, deadline time + 2,000; then the second, settled. All are counted from the time of the call." The delay after a
--- probe goes by how many are sent then, this one included.
+-- probe goes by how many are sent then, this one included (reading defence-keeps-deadline).
 abbrev pub delay : Timing → ℕ → ℕ → ℕ
 delay row sent draw = cond (ltb sent (row .probeNum)) (gap row draw) (row .announceWait)
 

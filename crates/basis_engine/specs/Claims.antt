@@ -81,7 +81,7 @@ abbrev pub lastConflict : List Mark → Moment
 lastConflict marks = latest (timesOf aConflict marks)
 
 -- "In use it ends it under policy 1, and under policy 2 if this claim's previous conflict was less than 10,000 ms earlier:
--- that is a surrender."
+-- that is a surrender." (reading both-losses-surrender)
 abbrev pub isSurrender : Timing → ℕ → List Mark → Time → Bool
 isSurrender row policy earlier t =
     isInUse earlier && (eqb policy 1 || (eqb policy 2 && isWithin (row .defendInterval) t (lastConflict earlier)))

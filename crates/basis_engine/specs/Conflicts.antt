@@ -33,7 +33,7 @@ probesFor f address = eqb (f .operation) 1 && eqb (f .sender .ip .0) 0 && eqb (f
 -- - the record is probing and the sender IP is its address, whatever the sender hardware or operation; or
 -- - it's probing, operation 1, sender IP zero, target IP its address, sender hardware not ours; or
 -- - it's usable, sender IP its address, sender hardware not ours."
--- "A deadline that has passed without a tick changes nothing here: the stage decides."
+-- "A deadline that has passed without a tick changes nothing here: the stage decides." (reading late-echo)
 abbrev pub isConflictAt : Setup → Frame → Ipv4Address → Stage → Bool
 isConflictAt setup f address Free = false
 isConflictAt setup f address (Probing sent deadline) =
@@ -44,7 +44,8 @@ isConflictAt setup f address (Settled conflict) = isFrom f address && not (isOur
 abbrev pub isConflict : Setup → Frame → Record → Bool
 isConflict setup f r = isConflictAt setup f (r .address) (r .stage)
 
--- "A conflict adds one to the count unless it is 10."
+-- "A conflict adds one to the count unless it is 10." A defended one too, over all records
+-- (readings count-never-falls, document-01-decides).
 abbrev pub countUp : Timing → ℕ → ℕ
 countUp row count = cond (eqb count (row .maxConflicts)) count (suc count)
 
@@ -66,7 +67,7 @@ resolutionAt row policy now (Settled conflict) = byPolicy row policy now conflic
 unfoldable pub resolution : Timing → Time → Record → Resolution
 resolution row now r = resolutionAt row (r .policy) now (r .stage)
 
--- "Each conflict seen, answered or not, becomes the last one seen."
+-- "Each conflict seen, answered or not, becomes the last one seen." (reading defence-keeps-deadline)
 abbrev pub seenAt : Time → Stage → Stage
 seenAt now Free = Free
 seenAt now (Probing sent deadline) = Probing sent deadline

@@ -20,7 +20,7 @@ deadlineOf (Settled conflict) = none
 abbrev pub hasDeadline : ℕ → Record → Bool
 hasDeadline deadline r = isJust deadline (deadlineOf (r .stage))
 
--- "The smallest deadline left or none."
+-- "The smallest deadline left or none" (readings next-of-all-slots, deadline-above-range).
 abbrev pub smaller : Option ℕ → Option ℕ → Option ℕ
 smaller none d = d
 smaller (some c) none = some c

@@ -37,7 +37,7 @@ abbrev pub stateAfter : Interface → List Exchange → Interface
 stateAfter start [] = start
 stateAfter start (exchange ∷ earlier) = exchange .state
 
--- "Demand 3 speaks of the calls from one accepted fresh up to the next."
+-- "Demand 3 speaks of the calls from one accepted fresh up to the next" (reading refused-fresh).
 abbrev pub isAccepted : Report Accepted → Bool
 isAccepted (refused n) = false
 isAccepted (accepted answer) = true

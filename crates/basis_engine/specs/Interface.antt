@@ -19,7 +19,7 @@ use Rattle.basis_engine.specs.Timing.{Timing, timingOf}
 use Rattle.basis_engine.specs.Slots.{freeRecord, any, all}
 
 -- "The own hardware address isn't zero and its first byte is even." A number of 2^48 or more is no address
--- (docs/DECISIONS.md, 2).
+-- (reading hardware-48-bits).
 unfoldable pub isOwnHardware : HardwareAddress → Bool
 isOwnHardware address = isHardware address && not (eqb (address .0) 0) && eqb (address .0 / 2 ^ 40 % 2) 0
 
@@ -73,14 +73,15 @@ abbrev pub isPast : Time → Moment → Bool
 isPast latest Never = true
 isPast latest (At time) = leb (time .0) (latest .0)
 
--- "Each deadline is at most the latest time plus 2,000": no delay is longer.
+-- "Each deadline is at most the latest time plus 2,000": no delay is longer (reading deadline-above-range).
 abbrev pub longestDelay : ℕ
 longestDelay = 2_000
 
 abbrev pub isNear : Time → Time → Bool
 isNear latest deadline = leb (deadline .0) (latest .0 + longestDelay)
 
--- What a sound state asks of one stage, "no record has more than 3 probes sent" included, and of one record.
+-- What a sound state asks of one stage, "no record has more than 3 probes sent" included, and of one record
+-- (readings free-is-a-stage, any-record).
 unfoldable pub isSoundStage : Timing → Time → Stage → Bool
 isSoundStage row latest Free = true
 isSoundStage row latest (Probing sent deadline) = leb sent (row .probeNum) && isNear latest deadline
@@ -99,7 +100,7 @@ unfoldable pub holdsNoneTwice : List Record → Bool
 holdsNoneTwice [] = true
 holdsNoneTwice (r ∷ records) = isAlone r records && holdsNoneTwice records
 
--- "A state is sound if".
+-- "A state is sound if" (readings sound-exactly-if, ten-conflicts-no-ask).
 unfoldable pub isSound : Interface → Bool
 isSound s =
     isSoundSetup (s .setup)

@@ -44,7 +44,7 @@ acceptedAs outcome =
 
 -- "Compared with it at each call are the refusal number or the whole answer, the new state and every lent byte." "A refusal
 -- returns its number alone [..], and the state and each lent byte remain what they were, latest time included." "A refused fresh makes no state":
--- the one handed in comes back. A packet's bytes are lent for reading only, so no result speaks of them.
+-- the one handed in comes back (reading refused-fresh). A packet's bytes are lent for reading only, so no result speaks of them.
 pub record Result : Type 0 where
   pub report : Report Accepted
   pub state : Interface

@@ -1,4 +1,5 @@
--- Document 01, "Refusal numbers": of each call its rows of the table, in the table's order, for any state and any arguments.
+-- Document 01, "Refusal numbers": of each call its rows of the table, in the table's order, for any state and any arguments
+-- (readings lowest-number, whole-numbers).
 use Prim.Native.Nat.{ℕ}
 use mathlib.Core.Bool.{Bool, not, _&&_, _||_}
 use mathlib.Core.List.{List}
@@ -22,14 +23,15 @@ stateAndTime s time others =
     3 if ltb lastTime (time .0) else
     4 if ltb (time .0) (s .latest .0) else others
 
--- The rows 1, 3, 4 and 5, of tick and packet, before a call's other rows.
+-- The rows 1, 3, 4 and 5, of tick and packet, before a call's other rows. 5: "out buffer under 28 bytes", with or without a
+-- frame to write (reading room-by-length).
 abbrev pub stateTimeAndRoom : Interface → Time → ℕ → Option ℕ → Option ℕ
 stateTimeAndRoom s time room others = stateAndTime s time (5 if ltb room frameLength else others)
 
 unfoldable pub freshRefusal : Setup → Option ℕ
 freshRefusal setup = 2 if not (isSoundSetup setup) else none
 
--- 12: "count is 10, and a request was accepted less than 60,000 ms ago".
+-- 12: "count is 10, and a request was accepted less than 60,000 ms ago" (readings request-is-an-ask, ten-conflicts-no-ask).
 abbrev pub isTooSoon : Interface → Time → Bool
 isTooSoon s time =
     eqb (s .conflicts) (timingOf (s .setup) .maxConflicts)

@@ -10,7 +10,7 @@ use Rattle.basis.specs.declared.Record.{Record}
 use Rattle.basis.specs.declared.Stage.{Stage}
 use Rattle.basis.specs.declared.Stage.the-variants.{Free}
 
--- A free slot's record. A call that frees a slot leaves this.
+-- A free slot's record. A call that frees a slot leaves this (reading free-is-a-stage).
 abbrev pub freeRecord : Record
 freeRecord = record { address = record { 0 = 0 }; policy = 0; stage = Free }
 

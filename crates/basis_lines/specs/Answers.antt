@@ -55,7 +55,7 @@ pub record Answered : Type 0 where
   pub text : List ℕ
   pub state : Interface
 
--- "Anything else, an empty line [..] included, is 14": no call is made.
+-- "Anything else, an empty line [..] included, is 14": no call is made (reading malformed-makes-no-call).
 abbrev pub malformed : Interface → Answered
 malformed s = record { text = refusedText (refusalNumber LineMalformed); state = s }
 

@@ -40,7 +40,8 @@ isForm word more fields = sameBytes (field 0 fields) word && eqb (length fields)
 abbrev pub time : List ℕ → Option Time
 time text = number largest text then λ ms. some (record { 0 = ms })
 
--- A call as a replay makes it, with the bytes of a packet: it lends 28 bytes as the out buffer.
+-- A call as a replay makes it, with the bytes of a packet: it lends 28 bytes as the out buffer
+-- (reading replay-lends-28).
 abbrev pub lentBuffer : List ℕ
 lentBuffer = replicate frameLength 0
 
@@ -85,7 +86,7 @@ forms =
     ∷ timed dropWord 2 dropAt
     ∷ []
 
--- The call that fields make, or none.
+-- The call that fields make, or none (readings empty-packet-field, unused-draw).
 abbrev pub callBy : List Form → List (List ℕ) → Option Invocation
 callBy [] fields = none
 callBy (form ∷ others) fields = cond (isForm (form .word) (form .more) fields) (form .call fields) (callBy others fields)
@@ -93,7 +94,7 @@ callBy (form ∷ others) fields = cond (isForm (form .word) (form .more) fields)
 unfoldable pub callIn : List (List ℕ) → Option Invocation
 callIn fields = callBy forms fields
 
--- "One record a line, ended by byte 10, at most 4,096 bytes before it."
+-- "One record a line, ended by byte 10, at most 4,096 bytes before it." (reading line-limit)
 abbrev pub longestLine : ℕ
 longestLine = 4_096
 

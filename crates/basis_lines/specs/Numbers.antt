@@ -10,7 +10,7 @@ use Rattle.basis.specs.declared.Ipv4Address.{Ipv4Address}
 use Rattle.basis.specs.declared.HardwareAddress.{HardwareAddress}
 use Rattle.basis_lines.specs.Fields.{dot, parts, only, _then_}
 
--- "Numbers: digits 0 to 9 only, no leading zero except for 0 itself."
+-- "Numbers: digits 0 to 9 only, no leading zero except for 0 itself." (reading carriage-return)
 abbrev pub isDigit : ℕ → Bool
 isDigit b = leb 48 b && leb b 57
 
@@ -31,7 +31,7 @@ unfoldable pub valueAfter : ℕ → List ℕ → ℕ
 valueAfter n [] = n
 valueAfter n (b ∷ text) = valueAfter (10 * n + (b - 48)) text
 
--- A number up to the largest allowed, or none.
+-- A number up to the largest allowed, or none (reading whole-numbers).
 unfoldable pub number : ℕ → List ℕ → Option ℕ
 number most text = only (isNumeral text && leb (valueAfter 0 text) most) (valueAfter 0 text)
 
@@ -47,7 +47,7 @@ unfoldable pub each : (List ℕ → Option ℕ) → List (List ℕ) → Option (
 each read [] = some []
 each read (text ∷ more) = read text then λ n. each read more then λ ns. some (n ∷ ns)
 
--- "Addresses: four such numbers up to 255, parted by dots."
+-- "Addresses: four such numbers up to 255, parted by dots." (reading addresses-in-form)
 unfoldable pub address : List ℕ → Option Ipv4Address
 address text = each (number 255) (parts dot text) then λ bytes. only (eqb (length bytes) 4) (record { 0 = numberOf bytes })
 
@@ -61,7 +61,7 @@ hexBytes (high ∷ []) = none
 hexBytes (high ∷ low ∷ text) =
     hexDigit high then λ h. hexDigit low then λ l. hexBytes text then λ bytes. some ((h * 16 + l) ∷ bytes)
 
--- "Bytes: lower-case hex, an even count of digits from 0 to 3,000; hardware exactly 12 digits."
+-- "Bytes: lower-case hex, an even count of digits from 0 to 3,000; hardware exactly 12 digits." (reading empty-packet-field)
 unfoldable pub bytes : List ℕ → Option (List ℕ)
 bytes text = cond (leb (length text) 3_000) (hexBytes text) none
 

@@ -11,7 +11,7 @@ use Rattle.basis_lines.specs.Fields.{newline}
 use Rattle.basis_lines.specs.Numbers.{isEmpty}
 use Rattle.basis_lines.specs.Answers.{Answered, malformed, lineAnswer}
 
--- A line that byte 10 ended, and what follows the last byte 10 if it is not empty.
+-- A line that byte 10 ended, and what follows the last byte 10 if it is not empty (reading unended-line).
 pub data Entry : Type 0 where
   ended : List ℕ → Entry
   unended : List ℕ → Entry

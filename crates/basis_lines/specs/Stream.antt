@@ -78,7 +78,7 @@ abbrev pub work : Stream → List ℕ → ℕ → Work
 work st input room = workAfter st [] input room
 
 -- The end of the input, with the bytes that are left: "an unended last line" is 14, and nothing after the last byte 10 is no
--- record.
+-- record (reading unended-line).
 abbrev pub finish : Stream → List ℕ → List ℕ
 finish st left = cond (st .skipping || not (isEmpty left)) (malformed (st .state) .text) []
 

@@ -1,2 +1,2 @@
--- What the calls' proofs cite.
+-- What a proof of src/ cites.
 mod EngineLaws

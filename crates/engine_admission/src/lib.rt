@@ -1,10 +1,13 @@
 // The refusals of a call on a state, row by row: the first three, and how a further one is added.
+use basis::FRAME_LENGTH;
 use basis::LAST_TIME;
 use basis::Refusal;
 use basis::Time;
 ghost use mathlib.Core.Path.{_≡_};
 ghost use mathlib.Core.Option.{none};
+ghost use lib.Dec.{ltb};
 ghost use Rattle.basis.specs.Answers.{refusalNumber, _if_else_};
+ghost use Rattle.basis.specs.Frame.{frameLength};
 ghost use Rattle.engine_admission.specs.Rows.{checkOf, firstRows, orElse};
 
 // How a call comes through rows of the refusals.
@@ -42,4 +45,11 @@ pub fn row(check: Check, refusal: Refusal, applies: bool) -> Check
             }
         }
     }
+}
+
+// The row 5, of a call that is lent an out buffer with so much room, after those that a check stands for.
+pub fn row_of_room(check: Check, room: usize) -> Check
+    ensures { λ r. ⌜ checkOf r ≡ orElse (checkOf check) (5 if ltb room frameLength else none) ⌝ }
+{
+    row(check, Refusal::BufferTooShort, room < FRAME_LENGTH)
 }

@@ -18,7 +18,7 @@ use Rattle.basis.specs.declared.Interface.{Interface}
 use Rattle.basis.specs.declared.Refusal.{Refusal}
 use Rattle.basis.specs.declared.Kind.the-variants.{Taken}
 use Rattle.basis.proofs.BytesLaws.{and-both}
-use Rattle.basis_engine.specs.Timing.{wait, isWithin}
+use Rattle.basis_engine.specs.Timing.{wait, isWithin, rfc5227}
 use Rattle.basis_engine.specs.Slots.{lowest, isNone}
 use Rattle.basis_engine.specs.Interface.{isAllowed, isPolicy, isFree, isHeld}
 use Rattle.basis_engine.specs.Refusals.{stateAndTime, isTooSoon, askRefusal}
@@ -34,23 +34,23 @@ use Rattle.engine_decisions.specs.declared.Decision.{Decision}
 use Rattle.engine_decisions.specs.Decisions.{Declines, Decided}
 use Rattle.engine_decisions.proofs.Promises.{declined, decided}
 
-pub claim-made : (time : Time) (address : Ipv4Address) (policy draw ms : ℕ) → ms ≡ wait draw →
-    record { address = address; policy = policy; stage = Probing 0 (record { 0 = time .0 + ms }) } ≡ newClaim time address policy draw
+pub claim-made : (time : Time) (address : Ipv4Address) (policy draw ms : ℕ) → ms ≡ wait rfc5227 draw →
+    record { address = address; policy = policy; stage = Probing 0 (record { 0 = time .0 + ms }) } ≡ newClaim rfc5227 time address policy draw
 claim-made time address policy draw ms e = rw e
 
 module _ (s : Interface) (time : Time) where
-  pub soon-limited : s .conflicts ≡ 10 → (within : Bool) → within ≡ isWithin 60_000 time (s .asked) → within ≡ isTooSoon s time
-  soon-limited e within w = rw (eq-eqb (s .conflicts) 10 e) w
+  pub soon-limited : s .conflicts ≡ rfc5227 .maxConflicts → (within : Bool) → within ≡ isWithin (rfc5227 .rateLimitInterval) time (s .asked) → within ≡ isTooSoon s time
+  soon-limited e within w = rw (eq-eqb (s .conflicts) (rfc5227 .maxConflicts) e) w
 
-  pub soon-unlimited : s .conflicts ≢ 10 → false ≡ isTooSoon s time
-  soon-unlimited e = rw (ne-eqb (s .conflicts) 10 e)
+  pub soon-unlimited : s .conflicts ≢ rfc5227 .maxConflicts → false ≡ isTooSoon s time
+  soon-unlimited e = rw (ne-eqb (s .conflicts) (rfc5227 .maxConflicts) e)
 
 -- The rows of an ask alone, by what their tests answered.
 abbrev rows : Bool → Bool → Bool → Bool → Bool → Option ℕ
 rows allowed known held full soon =
     8 if not allowed else 9 if not known else 10 if held else 11 if full else 12 if soon else none
 
-module _ (s : Interface) (time : Time) (address : Ipv4Address) (policy : ℕ) where
+module _ (s : Interface) (time : Time) (address : Ipv4Address) (policy draw : ℕ) where
   abbrev asked : Option ℕ
   asked =
       rows (isAllowed address) (isPolicy policy) (isHeld address (s .records)) (isNone (lowest isFree (s .records))) (isTooSoon s time)
@@ -69,7 +69,7 @@ module _ (s : Interface) (time : Time) (address : Ipv4Address) (policy : ℕ) wh
       (c10 : Check) → checkOf c10 ≡ orElse (checkOf c9) (10 if held else none) →
       (c11 : Check) → checkOf c11 ≡ orElse (checkOf c10) (11 if full else none) →
       (c12 : Check) → checkOf c12 ≡ orElse (checkOf c11) (12 if soon else none) →
-      checkOf c12 ≡ askRefusal s time address policy
+      checkOf c12 ≡ askRefusal s time address policy draw
   unfolding askRefusal
   ask-rows allowed a known k held h slot l full f soon w c4 t4 c8 t8 c9 t9 c10 t10 c11 t11 c12 t12 =
       t12
@@ -77,10 +77,10 @@ module _ (s : Interface) (time : Time) (address : Ipv4Address) (policy : ℕ) wh
       (λ i. orElse (stateAndTime s time none) (rows (a i) (k i) (h i) ((f ∙ ap isNone l) i) (w i)))
       ∙ admits s time asked
 
-  module _ (check : Check) (told : checkOf check ≡ askRefusal s time address policy) where
+  module _ (check : Check) (told : checkOf check ≡ askRefusal s time address policy draw) where
     module _ (pass : check ≡ Passed) where
-      facts : AskAccepted s time address policy
-      facts = ask-accepted s time address policy (sym told ∙ ap checkOf pass)
+      facts : AskAccepted s time address policy draw
+      facts = ask-accepted s time address policy draw (sym told ∙ ap checkOf pass)
 
       pub ask-time : time .0 ≤ lastTime
       ask-time = facts .admission .inRange
@@ -88,23 +88,22 @@ module _ (s : Interface) (time : Time) (address : Ipv4Address) (policy : ℕ) wh
       pub ask-policy : policy ≤ 3
       ask-policy = leb-true policy 3 (and-both (leb 1 policy) (leb policy 3) (facts .known) .1)
 
-    module _ (draw : ℕ) where
-      pub ask-refused : (d : Decision) (refusal : Refusal) → check ≡ Refused refusal → Declines s (refusalNumber refusal) d →
-          Decided s (askRefusal s time address policy) (askOutcome s time address policy draw) d
-      ask-refused d = declined s (askOutcome s time address policy draw) d (askRefusal s time address policy) check told
+    pub ask-refused : (d : Decision) (refusal : Refusal) → check ≡ Refused refusal → Declines s (refusalNumber refusal) d →
+        Decided s (askRefusal s time address policy draw) (askOutcome s time address policy draw) d
+    ask-refused d = declined s (askOutcome s time address policy draw) d (askRefusal s time address policy draw) check told
 
-      pub ask-takes : check ≡ Passed → (slot : SlotNumber) → slotOf slot ≡ lowest isFree (s .records) →
-          (claim : Record) → claim ≡ newClaim time address policy draw →
-          Decided s (askRefusal s time address policy) (askOutcome s time address policy draw)
-          (record {
-            verdict = Accepted Taken;
-            change = record { latest = time; asked = At time; conflicts = s .conflicts; slot = slot; held = claim };
-            frame = Nothing;
-          })
-      unfolding askOutcome
-      ask-takes e slot l claim c =
-          decided s (askOutcome s time address policy draw) _ (askRefusal s time address policy) check told e
-          (record { accepts = refl; concerns = l; changes = rw (l, c); sends = refl })
+    pub ask-takes : check ≡ Passed → (slot : SlotNumber) → slotOf slot ≡ lowest isFree (s .records) →
+        (claim : Record) → claim ≡ newClaim rfc5227 time address policy draw →
+        Decided s (askRefusal s time address policy draw) (askOutcome s time address policy draw)
+        (record {
+          verdict = Accepted Taken;
+          change = record { latest = time; asked = At time; conflicts = s .conflicts; slot = slot; held = claim };
+          frame = Nothing;
+        })
+    unfolding askOutcome
+    ask-takes e slot l claim c =
+        decided s (askOutcome s time address policy draw) _ (askRefusal s time address policy draw) check told e
+        (record { accepts = refl; concerns = l; changes = rw (l, c); sends = refl })
 
 pub ruleset soon-ends = (soon-limited, soon-unlimited)
 

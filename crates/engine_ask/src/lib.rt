@@ -1,5 +1,4 @@
 // Asking for an address: the refusals in the table's order, then the lowest free slot.
-use engine_admission::Check;
 use basis::Interface;
 use basis::Ipv4Address;
 use basis::Kind;
@@ -11,6 +10,7 @@ use basis::Refusal;
 use basis::SlotNumber;
 use basis::Stage;
 use basis::Time;
+use engine_admission::Check;
 use engine_decisions::Change;
 use engine_decisions::Decision;
 use engine_decisions::Outgoing;
@@ -20,6 +20,7 @@ ghost use mathlib.Core.Option.{none};
 ghost use Prim.Native.Nat.{_≤_};
 ghost use Rattle.basis.specs.Times.{lastTime};
 ghost use Rattle.basis.specs.Answers.{slotOf};
+ghost use Rattle.basis_engine.specs.Timing.{rfc5227};
 ghost use Rattle.basis_engine.specs.Slots.{isNone};
 ghost use Rattle.basis_engine.specs.Refusals.{stateAndTime, isTooSoon, askRefusal};
 ghost use Rattle.basis_engine.specs.Calls.{askOutcome};
@@ -56,9 +57,10 @@ fn ask_check(
     time: Time,
     address: Ipv4Address,
     policy: u64,
+    draw: u32,
 ) -> Check
     requires { ⌜ checkOf admitted ≡ stateAndTime state time none ⌝ }
-    ensures { λ r. ⌜ checkOf r ≡ askRefusal state time address policy ⌝ }
+    ensures { λ r. ⌜ checkOf r ≡ askRefusal state time address policy draw ⌝ }
 {
     let records = state.records;
     let allowed = engine_sound_records::is_allowed(address);
@@ -77,7 +79,7 @@ fn ask_check(
 // The record of a new claim, with no probe sent.
 fn new_claim(time: Time, address: Ipv4Address, policy: u64, draw: u32) -> Record
     requires { ⌜ (time .0 ≤ lastTime) × (policy ≤ 3) ⌝ }
-    ensures { λ r. ⌜ r ≡ Call.newClaim time address policy draw ⌝ }
+    ensures { λ r. ⌜ r ≡ Call.newClaim rfc5227 time address policy draw ⌝ }
 {
     let deadline = Time(time.0 + engine_timing::wait(draw));
     Record {
@@ -97,9 +99,9 @@ pub fn ask(
     draw: u32,
 ) -> Decision
     requires { ⌜ checkOf admitted ≡ stateAndTime state time none ⌝ }
-    ensures { λ r. ⌜ Decided state (askRefusal state time address policy) (askOutcome state time address policy draw) r ⌝ }
+    ensures { λ r. ⌜ Decided state (askRefusal state time address policy draw) (askOutcome state time address policy draw) r ⌝ }
 {
-    let check = ask_check(state, admitted, time, address, policy);
+    let check = ask_check(state, admitted, time, address, policy, draw);
     match check {
         Check::Refused(refusal) => engine_decisions::refused(refusal, state),
         Check::Passed => {

@@ -2,12 +2,12 @@
 use Prim.Native.Nat.{ℕ}
 use mathlib.Core.Path.{_≡_}
 use mathlib.Core.Bool.{Bool, false, not, _&&_, _||_}
-use Rattle.basis.specs.declared.HardwareAddress.{HardwareAddress}
 use Rattle.basis.specs.declared.Time.{Time}
 use Rattle.basis.specs.declared.Moment.{Moment}
 use Rattle.basis.specs.declared.Frame.{Frame}
 use Rattle.basis.specs.declared.Stage.the-variants.{Free, Probing, Announced, Settled}
 use Rattle.basis.specs.declared.Record.{Record}
+use Rattle.basis.specs.declared.Setup.{Setup}
 use Rattle.basis_engine.specs.Interface.{isOurs}
 use Rattle.basis_engine.specs.Conflicts.{isFrom, probesFor, isConflict}
 
@@ -19,22 +19,22 @@ module _ (f o from ours : Bool) (e : from ≡ f) (g : ours ≡ o) where
   pub probing-is : (p probes : Bool) → probes ≡ p → (from || (probes && not ours)) ≡ (f || (p && not o))
   probing-is p probes h = rw (e, h, g)
 
-module _ (own : HardwareAddress) (f : Frame) (r : Record) where
-  pub conflict-free : r .stage ≡ Free → false ≡ isConflict own f r
+module _ (setup : Setup) (f : Frame) (r : Record) where
+  pub conflict-free : r .stage ≡ Free → false ≡ isConflict setup f r
   conflict-free e = rw e
 
   module _ (b : Bool) where
     pub conflict-probing : (sent : ℕ) (deadline : Time) → r .stage ≡ Probing sent deadline →
-        b ≡ (isFrom f (r .address) || (probesFor f (r .address) && not (isOurs own (f .sender .hardware)))) →
-        b ≡ isConflict own f r
+        b ≡ (isFrom f (r .address) || (probesFor f (r .address) && not (isOurs setup (f .sender .hardware)))) →
+        b ≡ isConflict setup f r
     conflict-probing sent deadline e told = rw e told
 
     pub conflict-announced : (deadline : Time) (last : Moment) → r .stage ≡ Announced deadline last →
-        b ≡ (isFrom f (r .address) && not (isOurs own (f .sender .hardware))) → b ≡ isConflict own f r
+        b ≡ (isFrom f (r .address) && not (isOurs setup (f .sender .hardware))) → b ≡ isConflict setup f r
     conflict-announced deadline last e told = rw e told
 
     pub conflict-settled : (last : Moment) → r .stage ≡ Settled last →
-        b ≡ (isFrom f (r .address) && not (isOurs own (f .sender .hardware))) → b ≡ isConflict own f r
+        b ≡ (isFrom f (r .address) && not (isOurs setup (f .sender .hardware))) → b ≡ isConflict setup f r
     conflict-settled last e told = rw e told
 
 -- Each way that `is_conflict` ends.

@@ -29,7 +29,7 @@ fn earlier(one: Moment, other: Moment) -> Moment
     ensures { λ r. ⌜ timeOf r ≡ smaller (timeOf one) (timeOf other) ⌝ }
 {
     match one {
-        Moment::Never => engine_copy::moment(other),
+        Moment::Never => engine_state::moment(other),
         Moment::At(a) => match other {
             Moment::Never => Moment::At(a),
             Moment::At(b) => {
@@ -70,20 +70,23 @@ fn is_deadline(stage: Stage, time: Time) -> bool
     }
 }
 
+// Whether a record has this deadline.
+fn has_deadline(waiting: Record, time: Time) -> bool
+    ensures { λ r. ⌜ r ≡ hasDeadline (time .0) waiting ⌝ }
+{
+    let stage = waiting.stage;
+    is_deadline(stage, time)
+}
+
 // The lowest slot with this deadline.
 fn deadline_slot(records: [Record; 4], time: Time) -> SlotNumber
     ensures { λ r. ⌜ slotOf r ≡ lowest (hasDeadline (time .0)) records ⌝ }
 {
-    let mut best = SlotNumber::Absent;
-    let mut i: usize = 4;
-    while 0 < i {
-        i -= 1;
-        let waiting = records[i];
-        let stage = waiting.stage;
-        let due = is_deadline(stage, time);
-        best = engine_slots::lower(due, i as u64, best);
-    }
-    best
+    let first = has_deadline(records[0], time);
+    let second = has_deadline(records[1], time);
+    let third = has_deadline(records[2], time);
+    let fourth = has_deadline(records[3], time);
+    engine_slots::lowest(first, second, third, fourth)
 }
 
 // The slot that is due: the earliest deadline if it isn't later than the time, the lowest slot on a tie.

@@ -12,6 +12,7 @@ use Rattle.basis.specs.declared.Called.{Called}
 use Rattle.basis_engine.specs.Slots.{putAt}
 use Rattle.basis_engine.specs.Deadlines.{smallestDeadline}
 use Rattle.basis_engine.specs.Calls.{Outcome}
+use Rattle.basis_engine.specs.Interface.{changed}
 use Rattle.engine_decisions.specs.declared.Outgoing.{Outgoing}
 use Rattle.engine_decisions.specs.declared.Outgoing.the-variants.{Nothing, Send}
 use Rattle.engine_decisions.specs.declared.Verdict.{Verdict}
@@ -31,13 +32,7 @@ sentOut (some frame) out = writeOut frame out
 -- The state that a change leaves.
 abbrev pub changedBy : Interface → Change → Interface
 changedBy s change =
-    record {
-      hardware = s .hardware;
-      latest = change .latest;
-      asked = change .asked;
-      conflicts = change .conflicts;
-      records = putAt (s .records) (slotOf (change .slot)) (change .held);
-    }
+    changed s (change .latest) (change .asked) (change .conflicts) (putAt (s .records) (slotOf (change .slot)) (change .held))
 
 -- What a verdict reports of a call that leaves these records.
 abbrev pub answerWith : Verdict → Option ℕ → List Record → Report Accepted

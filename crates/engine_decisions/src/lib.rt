@@ -1,22 +1,17 @@
-// The steps that the calls share: a slot read and written, what a call decides, and the decision carried out. A call decides first
-// and changes the state once, so that the state is not copied at each turn of its way.
+// What a call decides, and the decision carried out. A call decides first and changes the state once, so that the state is not
+// copied at each turn of its way.
 use basis::Answer;
 use basis::Called;
 use basis::Frame;
 use basis::Interface;
-use basis::Ipv4Address;
 use basis::Kind;
 use basis::Moment;
 use basis::Record;
 use basis::Refusal;
 use basis::SlotNumber;
-use basis::Stage;
 use basis::Time;
 ghost use mathlib.Core.Path.{_≡_};
-ghost use mathlib.Core.Bool.{cond};
-ghost use lib.Dec.{eqb};
 ghost use Rattle.basis.specs.Answers.{refusalNumber, slotOf, answerReport};
-ghost use Rattle.basis_engine.specs.Slots.{freeRecord, recordAt, putAt};
 ghost use Rattle.basis_engine.specs.Calls as Calls;
 ghost use Rattle.engine_decisions.specs.Decisions.{frameIn, sentOut, changedBy, answerWith, Decides, Declines, CarriedOut};
 
@@ -48,59 +43,13 @@ pub struct Decision {
     pub frame: Outgoing,
 }
 
-// A free slot's record.
-pub fn free_record() -> Record
-    ensures { λ r. ⌜ r ≡ freeRecord ⌝ }
-{
-    Record {
-        address: Ipv4Address(0),
-        policy: 0,
-        stage: Stage::Free,
-    }
-}
-
-// A record, or the new one if two slots are the same.
-fn replaced(slot: u64, old: Record, place: u64, new: Record) -> Record
-    ensures { λ r. ⌜ r ≡ cond (eqb slot place) new old ⌝ }
-{
-    if slot == place { new } else { old }
-}
-
-// The record in a slot: the free one above the last. Each of the four is named: an index that may be any of them would keep them
-// all in memory.
-pub fn record_at(records: [Record; 4], slot: u64) -> Record
-    ensures { λ r. ⌜ r ≡ recordAt records slot ⌝ }
-{
-    let above = free_record();
-    let fourth = replaced(3, above, slot, records[3]);
-    let third = replaced(2, fourth, slot, records[2]);
-    let second = replaced(1, third, slot, records[1]);
-    replaced(0, second, slot, records[0])
-}
-
-// The records with this one in a slot, where there is one.
-fn put_at(records: [Record; 4], slot: SlotNumber, new: Record) -> [Record; 4]
-    ensures { λ r. ⌜ r ≡ putAt records (slotOf slot) new ⌝ }
-{
-    match slot {
-        SlotNumber::Absent => records,
-        SlotNumber::Slot(n) => {
-            let first = replaced(0, records[0], n, new);
-            let second = replaced(1, records[1], n, new);
-            let third = replaced(2, records[2], n, new);
-            let fourth = replaced(3, records[3], n, new);
-            [first, second, third, fourth]
-        }
-    }
-}
-
 // Refused: nothing changes and nothing goes out.
 pub fn refused(refusal: Refusal, state: Interface) -> Decision
     ensures { λ r. ⌜ Declines state (refusalNumber refusal) r ⌝ }
 {
     let latest = state.latest;
     let asked = state.asked;
-    let held = free_record();
+    let held = engine_slots::free_record();
     Decision {
         verdict: Verdict::Refused(refusal),
         change: Change {
@@ -119,7 +68,7 @@ pub fn nothing(state: Interface, time: Time) -> Decision
     ensures { λ r. ⌜ Decides state (Calls.nothing state time) r ⌝ }
 {
     let asked = state.asked;
-    let held = free_record();
+    let held = engine_slots::free_record();
     Decision {
         verdict: Verdict::Accepted(Kind::Nothing),
         change: Change {
@@ -137,20 +86,13 @@ pub fn nothing(state: Interface, time: Time) -> Decision
 fn changed(state: Interface, change: Change) -> Interface
     ensures { λ r. ⌜ r ≡ changedBy state change ⌝ }
 {
-    let hardware = state.hardware;
     let before = state.records;
     let latest = change.latest;
     let asked = change.asked;
     let slot = change.slot;
     let held = change.held;
-    let records = put_at(before, slot, held);
-    Interface {
-        hardware,
-        latest,
-        asked,
-        conflicts: change.conflicts,
-        records,
-    }
+    let records = engine_slots::put_at(before, slot, held);
+    engine_state::changed(state, latest, asked, change.conflicts, records)
 }
 
 // The answer to a call that leaves these records.
@@ -172,8 +114,8 @@ fn hand_out(frame: Outgoing, out: &mut [u8])
 {
     match frame {
         Outgoing::Nothing => {}
-        Outgoing::Send(frame) => {
-            engine_frames::hand_out(frame, out);
+        Outgoing::Send(sent) => {
+            frame_writer::write(sent, out);
         }
     }
 }

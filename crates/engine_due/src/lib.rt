@@ -1,36 +1,89 @@
-// A due record served: the frame that goes out, and the stage that follows.
+// A due record: the frame that goes out, and the stage that its sending leaves.
 use basis::ANNOUNCE_INTERVAL;
 use basis::ANNOUNCE_WAIT;
-use basis::HardwareAddress;
 use basis::Ipv4Address;
 use basis::Kind;
 use basis::Moment;
 use basis::PROBE_NUM;
 use basis::Record;
+use basis::Setup;
 use basis::Stage;
 use basis::Time;
 use engine_decisions::Outgoing;
 ghost use mathlib.Core.Path.{_≡_};
-ghost use mathlib.Core.Option.{some};
+ghost use mathlib.Core.Option.{none, some};
 ghost use Prim.Native.Nat.{_≤_};
 ghost use Rattle.basis.specs.Times.{lastTime};
 ghost use Rattle.basis.specs.Frame as Frame;
-ghost use Rattle.basis_engine.specs.Interface.{longestDelay};
-ghost use Rattle.basis_engine.specs.Calls.{service};
+ghost use Rattle.basis.specs.declared.Kind.the-variants as Kinds;
+ghost use Rattle.basis_engine.specs.Timing.{rfc5227};
+ghost use Rattle.basis_engine.specs.Interface.{longestDelay, senderOf};
+ghost use Rattle.basis_engine.specs.Calls.{dueFrame, stageAfter};
 ghost use Rattle.basis_engine.specs.Calls as Call;
-ghost use Rattle.engine_decisions.specs.Decisions.{frameIn};
-ghost use Rattle.engine_due.specs.Due.{serviceOf};
+ghost use Rattle.engine_due.specs.Due.{dueOf};
 
-// What serving a slot does: the kind that is reported, the stage that follows, the frame that goes out.
-pub struct Service {
+// The frame that is due: the kind that is reported of it, and the frame.
+pub struct Due {
     pub kind: Kind,
-    pub stage: Stage,
     pub frame: Outgoing,
+}
+
+// Nothing is due.
+fn nothing() -> Due
+    ensures { λ r. ⌜ dueOf r ≡ record { kind = Kinds.Nothing; frame = none } ⌝ }
+{
+    Due {
+        kind: Kind::Nothing,
+        frame: Outgoing::Nothing,
+    }
+}
+
+fn probe(setup: Setup, address: Ipv4Address) -> Due
+    ensures { λ r. ⌜ dueOf r ≡ record { kind = Kinds.Probe; frame = some (Frame.probe (senderOf setup) address) } ⌝ }
+{
+    let frame = engine_frames::probe(setup, address);
+    Due {
+        kind: Kind::Probe,
+        frame: Outgoing::Send(frame),
+    }
+}
+
+fn announcement(setup: Setup, address: Ipv4Address) -> Due
+    ensures { λ r. ⌜ dueOf r ≡ record { kind = Kinds.Announce; frame = some (Frame.announcement (senderOf setup) address) } ⌝ }
+{
+    let frame = engine_frames::announcement(setup, address);
+    Due {
+        kind: Kind::Announce,
+        frame: Outgoing::Send(frame),
+    }
+}
+
+// The frame that is due of a record.
+pub fn due_frame(setup: Setup, claim: Record) -> Due
+    ensures { λ r. ⌜ dueOf r ≡ dueFrame rfc5227 setup claim ⌝ }
+{
+    let address = claim.address;
+    let stage = claim.stage;
+    match stage {
+        Stage::Free => nothing(),
+        Stage::Probing { sent, deadline: _ } => {
+            if sent < PROBE_NUM {
+                probe(setup, address)
+            } else {
+                announcement(setup, address)
+            }
+        }
+        Stage::Announced {
+            deadline: _,
+            conflict: _,
+        } => announcement(setup, address),
+        Stage::Settled { conflict: _ } => nothing(),
+    }
 }
 
 // The time from a probe to the next frame, with so many probes sent.
 fn delay(probes: u8, draw: u32) -> u64
-    ensures { λ r. ⌜ (r ≡ Call.delay probes draw) × (r ≤ longestDelay) ⌝ }
+    ensures { λ r. ⌜ (r ≡ Call.delay rfc5227 probes draw) × (r ≤ longestDelay) ⌝ }
 {
     if probes < PROBE_NUM {
         engine_timing::gap(draw)
@@ -39,70 +92,29 @@ fn delay(probes: u8, draw: u32) -> u64
     }
 }
 
-// The two frames, on their way out.
-fn probe(own: HardwareAddress, address: Ipv4Address) -> Outgoing
-    ensures { λ r. ⌜ frameIn r ≡ some (Frame.probe own address) ⌝ }
-{
-    let frame = engine_frames::probe(own, address);
-    Outgoing::Send(frame)
-}
-
-fn announcement(own: HardwareAddress, address: Ipv4Address) -> Outgoing
-    ensures { λ r. ⌜ frameIn r ≡ some (Frame.announcement own address) ⌝ }
-{
-    let frame = engine_frames::announcement(own, address);
-    Outgoing::Send(frame)
-}
-
-// A record served. Each deadline is counted from the time of the call, so a late tick shortens no gap.
-pub fn served(own: HardwareAddress, time: Time, draw: u32, claim: Record) -> Service
+// The stage that the sending of its due frame leaves. Each deadline is counted from the time of the call, so a late tick shortens
+// no gap.
+pub fn stage_after(time: Time, draw: u32, stage: Stage) -> Stage
     requires { ⌜ time .0 ≤ lastTime ⌝ }
-    ensures { λ r. ⌜ serviceOf r ≡ service own time draw claim ⌝ }
+    ensures { λ r. ⌜ r ≡ stageAfter rfc5227 time draw stage ⌝ }
 {
-    let address = claim.address;
-    let stage = claim.stage;
     match stage {
-        Stage::Free => Service {
-            kind: Kind::Nothing,
-            stage,
-            frame: Outgoing::Nothing,
-        },
+        Stage::Free => stage,
         Stage::Probing { sent, deadline: _ } => {
             if sent < PROBE_NUM {
                 let sent = sent + 1;
                 let deadline = Time(time.0 + delay(sent, draw));
-                let frame = probe(own, address);
-                Service {
-                    kind: Kind::Probe,
-                    stage: Stage::Probing { sent, deadline },
-                    frame,
-                }
+                Stage::Probing { sent, deadline }
             } else {
                 let deadline = Time(time.0 + ANNOUNCE_INTERVAL);
                 let conflict = Moment::Never;
-                let frame = announcement(own, address);
-                Service {
-                    kind: Kind::Announce,
-                    stage: Stage::Announced { deadline, conflict },
-                    frame,
-                }
+                Stage::Announced { deadline, conflict }
             }
         }
         Stage::Announced {
             deadline: _,
             conflict,
-        } => {
-            let frame = announcement(own, address);
-            Service {
-                kind: Kind::Announce,
-                stage: Stage::Settled { conflict },
-                frame,
-            }
-        }
-        Stage::Settled { conflict: _ } => Service {
-            kind: Kind::Nothing,
-            stage,
-            frame: Outgoing::Nothing,
-        },
+        } => Stage::Settled { conflict },
+        Stage::Settled { conflict: _ } => stage,
     }
 }

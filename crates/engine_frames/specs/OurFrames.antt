@@ -5,9 +5,9 @@ use Rattle.basis.specs.declared.Frame.{Frame}
 
 -- What a probe and an announcement share: they differ in the sender IP.
 abbrev pub requestOf : HardwareAddress → Ipv4Address → Ipv4Address → Frame
-requestOf own sender address =
+requestOf hardware ip address =
     record {
       operation = 1;
-      sender = record { hardware = own; ip = sender };
+      sender = record { hardware = hardware; ip = ip };
       target = record { hardware = record { 0 = 0 }; ip = address };
     }

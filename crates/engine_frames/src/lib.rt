@@ -3,21 +3,20 @@ use basis::Frame;
 use basis::HardwareAddress;
 use basis::Host;
 use basis::Ipv4Address;
+use basis::Setup;
 ghost use mathlib.Core.Path.{_≡_};
-ghost use Rattle.basis.specs.Frame.{writeOut};
 ghost use Rattle.basis.specs.Frame as Spec;
+ghost use Rattle.basis_engine.specs.Interface.{senderOf};
 ghost use Rattle.engine_frames.specs.OurFrames.{requestOf};
 
 // A request about an address.
-fn request(own: HardwareAddress, sender: Ipv4Address, address: Ipv4Address) -> Frame
-    ensures { λ r. ⌜ r ≡ requestOf own sender address ⌝ }
+fn request(setup: Setup, ip: Ipv4Address, address: Ipv4Address) -> Frame
+    ensures { λ r. ⌜ r ≡ requestOf (senderOf setup) ip address ⌝ }
 {
+    let hardware = setup.hardware;
     Frame {
         operation: 1,
-        sender: Host {
-            hardware: own,
-            ip: sender,
-        },
+        sender: Host { hardware, ip },
         target: Host {
             hardware: HardwareAddress(0),
             ip: address,
@@ -26,22 +25,15 @@ fn request(own: HardwareAddress, sender: Ipv4Address, address: Ipv4Address) -> F
 }
 
 // Asks whether an address is used, without saying that it is ours.
-pub fn probe(own: HardwareAddress, address: Ipv4Address) -> Frame
-    ensures { λ r. ⌜ r ≡ Spec.probe own address ⌝ }
+pub fn probe(setup: Setup, address: Ipv4Address) -> Frame
+    ensures { λ r. ⌜ r ≡ Spec.probe (senderOf setup) address ⌝ }
 {
-    request(own, Ipv4Address(0), address)
+    request(setup, Ipv4Address(0), address)
 }
 
 // Says that an address is ours. A defence is the same.
-pub fn announcement(own: HardwareAddress, address: Ipv4Address) -> Frame
-    ensures { λ r. ⌜ r ≡ Spec.announcement own address ⌝ }
+pub fn announcement(setup: Setup, address: Ipv4Address) -> Frame
+    ensures { λ r. ⌜ r ≡ Spec.announcement (senderOf setup) address ⌝ }
 {
-    request(own, address, address)
-}
-
-// Writes a frame to the out buffer, where it can be written.
-pub fn hand_out(frame: Frame, out: &mut [u8])
-    ensures { λ r. ⌜ now (out .exit) ≡ writeOut frame (now (out .entry)) ⌝ }
-{
-    frame_writer::write(frame, out);
+    request(setup, address, address)
 }

@@ -7,8 +7,7 @@ use native.Mathlib.Numerals.{add-one}
 use lib.Dec.{ltb}
 use borrow.Author.Tests.{eq-eqb, ne-eqb}
 use Rattle.basis.specs.Answers.{refusalNumber, _if_else_, accepted, reported, slotOf}
-use Rattle.basis.specs.Frame.{announcement, frameOf, readRefusal, readOf, readReport}
-use Rattle.basis.specs.declared.HardwareAddress.{HardwareAddress}
+use Rattle.basis.specs.Frame.{announcement, frameOf, readRefusal, readOf, readReport, frameLength}
 use Rattle.basis.specs.declared.Time.{Time}
 use Rattle.basis.specs.declared.Frame.{Frame}
 use Rattle.basis.specs.declared.Record.{Record}
@@ -21,40 +20,43 @@ use Rattle.basis.specs.declared.SlotNumber.{SlotNumber}
 use Rattle.basis.specs.declared.SlotNumber.the-variants.{Absent, Slot}
 use Rattle.basis.specs.declared.ReadAnswer.{ReadAnswer}
 use Rattle.basis.specs.declared.ReadAnswer.the-variants as ReadAnswer
+use Rattle.basis.specs.declared.Setup.{Setup}
 use Rattle.basis.proofs.AnswersLaws.{accepted-none, accepted-same, refused-some}
 use Rattle.basis_engine.specs.Slots.{recordAt, lowest}
 use Rattle.basis_engine.specs.Conflicts.{isConflict, countUp, resolution, recordAfter, defence, resolutionKind}
-use Rattle.basis_engine.specs.Refusals.{stateAndTime, tickRefusal, packetRefusal}
+use Rattle.basis_engine.specs.Refusals.{stateAndTime, packetRefusal}
 use Rattle.basis_engine.specs.Calls.{nothing, resolve, meet, packetOutcome}
-use Rattle.basis_engine.proofs.Acceptance.{tick-accepted, sound}
+use Rattle.basis_engine.specs.Timing.{rfc5227}
+use Rattle.basis_engine.specs.Interface.{senderOf}
+use Rattle.basis_engine.proofs.Acceptance.{sound}
 use Rattle.engine_admission.specs.declared.Check.{Check}
 use Rattle.engine_admission.specs.declared.Check.the-variants as Check
 use Rattle.engine_admission.specs.Rows.{checkOf, orElse}
-use Rattle.engine_admission.proofs.Rows.{row-joins, admits}
+use Rattle.engine_admission.proofs.Rows.{room-rows, room-passed}
 use Rattle.engine_decisions.specs.declared.Outgoing.{Outgoing}
 use Rattle.engine_decisions.specs.declared.Verdict.the-variants.{Accepted}
 use Rattle.engine_decisions.specs.declared.Decision.{Decision}
 use Rattle.engine_decisions.specs.Decisions.{frameIn, Decides, Declines, Decided}
 
 module _ (count : ℕ) where
-  pub count-full : count ≡ 10 → count ≡ countUp count
-  count-full h = rw (eq-eqb count 10 h)
+  pub count-full : count ≡ rfc5227 .maxConflicts → count ≡ countUp rfc5227 count
+  count-full h = rw (eq-eqb count (rfc5227 .maxConflicts) h)
 
-  pub count-adds : (count ≡ 10 → ⊥) → count + 1 ≡ countUp count
-  count-adds h = rw (ne-eqb count 10 h, add-one)
+  pub count-adds : (count ≡ rfc5227 .maxConflicts → ⊥) → count + 1 ≡ countUp rfc5227 count
+  count-adds h = rw (ne-eqb count (rfc5227 .maxConflicts) h, add-one)
 
 -- Each way that `count_up` ends.
 pub ruleset count-ends = (count-full, count-adds)
 
 -- A defence sends the announcement `f`, another resolution nothing.
-module _ (own : HardwareAddress) (held : Record) (chosen : Resolution) where
-  pub lose-sends : chosen ≡ Lose → none ≡ defence own held chosen
+module _ (setup : Setup) (held : Record) (chosen : Resolution) where
+  pub lose-sends : chosen ≡ Lose → none ≡ defence setup held chosen
   lose-sends e = rw e
 
-  pub keep-sends : chosen ≡ Keep → none ≡ defence own held chosen
+  pub keep-sends : chosen ≡ Keep → none ≡ defence setup held chosen
   keep-sends e = rw e
 
-  pub defend-sends : chosen ≡ Defend → (f : Frame) → f ≡ announcement own (held .address) → some f ≡ defence own held chosen
+  pub defend-sends : chosen ≡ Defend → (f : Frame) → f ≡ announcement (senderOf setup) (held .address) → some f ≡ defence setup held chosen
   defend-sends e f a = rw (e, a)
 
 -- Each way that `defence` ends.
@@ -62,9 +64,9 @@ pub ruleset defence-ends = (lose-sends, defend-sends, keep-sends)
 
 -- `kind`, `count`, `new` and `frame` are what `resolution_kind`, `count_up`, `record_after` and `defence` made.
 pub is-resolution : (s : Interface) (time : Time) (slot : ℕ) (held : Record) (chosen : Resolution) →
-    (kind : Kind) → kind ≡ resolutionKind chosen → (count : ℕ) → count ≡ countUp (s .conflicts) →
+    (kind : Kind) → kind ≡ resolutionKind chosen → (count : ℕ) → count ≡ countUp rfc5227 (s .conflicts) →
     (new : Record) → new ≡ recordAfter chosen time held →
-    (frame : Outgoing) → frameIn frame ≡ defence (s .hardware) held chosen →
+    (frame : Outgoing) → frameIn frame ≡ defence (s .setup) held chosen →
     Decides s (resolve s time slot held chosen)
     (record {
       verdict = Accepted kind;
@@ -76,14 +78,14 @@ is-resolution s time slot held chosen kind k count c new n frame f =
 
 module _
     (s : Interface) (time : Time) (d : Decision) (f : Frame)
-    (found : SlotNumber) (told : slotOf found ≡ lowest (isConflict (s .hardware) f) (s .records)) where
+    (found : SlotNumber) (told : slotOf found ≡ lowest (isConflict (s .setup) f) (s .records)) where
   pub none-met : found ≡ Absent → Decides s (nothing s time) d →
-      Decides s (meet s time f (lowest (isConflict (s .hardware) f) (s .records))) d
+      Decides s (meet s time f (lowest (isConflict (s .setup) f) (s .records))) d
   none-met e says = rw (← told, e) says
 
   pub one-met : (slot : ℕ) → found ≡ Slot slot → (held : Record) → held ≡ recordAt (s .records) slot →
-      (chosen : Resolution) → chosen ≡ resolution time held → Decides s (resolve s time slot held chosen) d →
-      Decides s (meet s time f (lowest (isConflict (s .hardware) f) (s .records))) d
+      (chosen : Resolution) → chosen ≡ resolution rfc5227 time held → Decides s (resolve s time slot held chosen) d →
+      Decides s (meet s time f (lowest (isConflict (s .setup) f) (s .records))) d
   one-met slot e held h chosen c says = rw (← told, e, ← h, ← c) says
 
 -- Each way that `meet` ends.
@@ -93,30 +95,22 @@ pub ruleset meet-ends = (none-met, one-met)
 module _
     (s : Interface) (time : Time) (room : ℕ)
     (admitted check : Check) (first : checkOf admitted ≡ stateAndTime s time none)
-    (told : checkOf check ≡ orElse (checkOf admitted) (5 if ltb room 28 else none)) where
-  rows : (others : Option ℕ) → stateAndTime s time (5 if ltb room 28 else others) ≡ orElse (checkOf check) others
-  rows others =
-      sym (admits s time (5 if ltb room 28 else others))
-      ∙ sym (row-joins (stateAndTime s time none) 5 (ltb room 28) others)
-      ∙ ap (λ (n : Option ℕ). orElse (orElse n (5 if ltb room 28 else none)) others) (sym first)
-      ∙ ap (λ (n : Option ℕ). orElse n others) (sym told)
-
+    (told : checkOf check ≡ orElse (checkOf admitted) (5 if ltb room frameLength else none)) where
   -- A sound state's count is at most 10.
-  pub passed-count : check ≡ Check.Passed → s .conflicts ≤ 10
-  unfolding tickRefusal
-  passed-count pass = sound s (tick-accepted s time room (rows none ∙ rw pass) .0 .sound) .counted
+  pub passed-count : check ≡ Check.Passed → s .conflicts ≤ rfc5227 .maxConflicts
+  passed-count pass = sound s (room-passed s time room admitted check first told pass .sound) .counted
 
   -- `read` is what the reader answered.
   module _ (bytes : List ℕ) (read : ReadAnswer) (said : readReport read ≡ readOf bytes) (d : Decision) where
     -- The refusals that are left to the read.
     passed-rows : check ≡ Check.Passed → (n : Option ℕ) → readRefusal bytes ≡ n → packetRefusal s time bytes room ≡ n
     unfolding packetRefusal
-    passed-rows pass n e = rows (readRefusal bytes) ∙ rw pass e
+    passed-rows pass n e = room-rows s time room admitted check first told (readRefusal bytes) ∙ rw pass e
 
     pub packet-barred : (refusal : Refusal) → check ≡ Check.Refused refusal → Declines s (refusalNumber refusal) d →
         Decided s (packetRefusal s time bytes room) (packetOutcome s time bytes) d
     unfolding packetRefusal
-    packet-barred refusal e says = rw (rows (readRefusal bytes), e) says
+    packet-barred refusal e says = rw (room-rows s time room admitted check first told (readRefusal bytes), e) says
 
     module _ (pass : check ≡ Check.Passed) where
       pub packet-unread : (refusal : Refusal) → read ≡ ReadAnswer.Refused refusal → Declines s (refusalNumber refusal) d →
@@ -128,7 +122,7 @@ module _
           says
 
       pub packet-read : (f : Frame) → read ≡ ReadAnswer.Read f →
-          Decides s (meet s time f (lowest (isConflict (s .hardware) f) (s .records))) d →
+          Decides s (meet s time f (lowest (isConflict (s .setup) f) (s .records))) d →
           Decided s (packetRefusal s time bytes room) (packetOutcome s time bytes) d
       unfolding packetOutcome readOf
       packet-read f e says =

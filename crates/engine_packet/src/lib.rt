@@ -1,15 +1,14 @@
 // The call packet: an ARP packet came in, and is a conflict with the record in a slot or with none.
-use engine_admission::Check;
 use basis::Frame;
-use basis::HardwareAddress;
 use basis::Interface;
 use basis::MAX_CONFLICTS;
 use basis::ReadAnswer;
 use basis::Record;
-use basis::Refusal;
 use basis::Resolution;
+use basis::Setup;
 use basis::SlotNumber;
 use basis::Time;
+use engine_admission::Check;
 use engine_decisions::Change;
 use engine_decisions::Decision;
 use engine_decisions::Outgoing;
@@ -17,6 +16,7 @@ use engine_decisions::Verdict;
 ghost use Prim.Native.Nat.{_≤_};
 ghost use mathlib.Core.Path.{_≡_};
 ghost use mathlib.Core.Option.{none};
+ghost use Rattle.basis_engine.specs.Timing.{rfc5227};
 ghost use Rattle.basis_engine.specs.Slots.{lowest};
 ghost use Rattle.basis_engine.specs.Conflicts.{isConflict, countUp};
 ghost use Rattle.basis_engine.specs.Conflicts as Conflicts;
@@ -28,8 +28,8 @@ ghost use Rattle.engine_decisions.specs.Decisions.{frameIn, Decides, Decided};
 
 // Adds one to the conflict count unless it is 10.
 fn count_up(count: u8) -> u8
-    requires { ⌜ count ≤ 10 ⌝ }
-    ensures { λ r. ⌜ r ≡ countUp count ⌝ }
+    requires { ⌜ count ≤ rfc5227 .maxConflicts ⌝ }
+    ensures { λ r. ⌜ r ≡ countUp rfc5227 count ⌝ }
 {
     if count == MAX_CONFLICTS {
         count
@@ -39,11 +39,11 @@ fn count_up(count: u8) -> u8
 }
 
 // The frame that a resolution sends.
-fn defence(own: HardwareAddress, held: Record, chosen: Resolution) -> Outgoing
-    ensures { λ r. ⌜ frameIn r ≡ Conflicts.defence own held chosen ⌝ }
+fn defence(setup: Setup, held: Record, chosen: Resolution) -> Outgoing
+    ensures { λ r. ⌜ frameIn r ≡ Conflicts.defence setup held chosen ⌝ }
 {
     let address = held.address;
-    let announcement = engine_frames::announcement(own, address);
+    let announcement = engine_frames::announcement(setup, address);
     match chosen {
         Resolution::Lose => Outgoing::Nothing,
         Resolution::Defend => Outgoing::Send(announcement),
@@ -53,14 +53,14 @@ fn defence(own: HardwareAddress, held: Record, chosen: Resolution) -> Outgoing
 
 // The resolution to a conflict with the record in a slot.
 fn resolve(state: Interface, time: Time, slot: u64, held: Record, chosen: Resolution) -> Decision
-    requires { ⌜ state .conflicts ≤ 10 ⌝ }
+    requires { ⌜ state .conflicts ≤ rfc5227 .maxConflicts ⌝ }
     ensures { λ r. ⌜ Decides state (Call.resolve state time slot held chosen) r ⌝ }
 {
-    let own = state.hardware;
+    let setup = state.setup;
     let asked = state.asked;
     let kind = engine_resolution::resolution_kind(chosen);
     let after = engine_resolution::record_after(chosen, time, held);
-    let frame = defence(own, held, chosen);
+    let frame = defence(setup, held, chosen);
     Decision {
         verdict: Verdict::Accepted(kind),
         change: Change {
@@ -76,16 +76,16 @@ fn resolve(state: Interface, time: Time, slot: u64, held: Record, chosen: Resolu
 
 // Meets a frame that was read.
 fn meet(state: Interface, time: Time, frame: Frame) -> Decision
-    requires { ⌜ state .conflicts ≤ 10 ⌝ }
-    ensures { λ r. ⌜ Decides state (Call.meet state time frame (lowest (isConflict (state .hardware) frame) (state .records))) r ⌝ }
+    requires { ⌜ state .conflicts ≤ rfc5227 .maxConflicts ⌝ }
+    ensures { λ r. ⌜ Decides state (Call.meet state time frame (lowest (isConflict (state .setup) frame) (state .records))) r ⌝ }
 {
-    let own = state.hardware;
+    let setup = state.setup;
     let records = state.records;
-    let found = engine_conflicts::conflict_slot(own, frame, records);
+    let found = engine_conflicts::conflict_slot(setup, frame, records);
     match found {
         SlotNumber::Absent => engine_decisions::nothing(state, time),
         SlotNumber::Slot(slot) => {
-            let held = engine_decisions::record_at(records, slot);
+            let held = engine_slots::record_at(records, slot);
             let chosen = engine_resolution::resolution(held, time);
             resolve(state, time, slot, held, chosen)
         }
@@ -99,7 +99,7 @@ pub fn packet(state: Interface, admitted: Check, time: Time, bytes: &[u8], room:
     ensures { λ r. ⌜ Decided state (packetRefusal state time (now (bytes .entry)) room) (packetOutcome state time (now (bytes .entry))) r ⌝ }
 {
     let read = frame_reader::read(bytes);
-    let check = engine_admission::row(admitted, Refusal::BufferTooShort, room < 28);
+    let check = engine_admission::row_of_room(admitted, room);
     match check {
         Check::Refused(refusal) => engine_decisions::refused(refusal, state),
         Check::Passed => match read {

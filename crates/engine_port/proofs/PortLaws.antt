@@ -9,7 +9,6 @@ use lib.Dec.{ltb}
 use lib.ListN.{length, List·getD-eq-default}
 use borrow.Author.Tests.{ltb-true}
 use Rattle.basis.specs.Answers.{refusalNumber, _if_else_, answerReport}
-use Rattle.basis.specs.declared.HardwareAddress.{HardwareAddress}
 use Rattle.basis.specs.declared.Time.{Time}
 use Rattle.basis.specs.declared.Record.{Record}
 use Rattle.basis.specs.declared.Interface.{Interface}
@@ -19,11 +18,13 @@ use Rattle.basis.specs.declared.SlotNumber.the-variants.{Absent, Slot}
 use Rattle.basis.specs.declared.Answer.the-variants as Answer
 use Rattle.basis.specs.declared.Kind.the-variants.{Fresh, Dropped}
 use Rattle.basis.specs.declared.Moment.the-variants.{Never}
+use Rattle.basis.specs.declared.Setup.{Setup}
+use Rattle.basis.specs.declared.Call.the-variants as Call
 use Rattle.basis_engine.specs.Slots.{freeRecord, recordAt}
-use Rattle.basis_engine.specs.Interface.{isOwnHardware, isFree, isFreeStage}
+use Rattle.basis_engine.specs.Interface.{isFree, isFreeStage, isSoundSetup, newInterface}
 use Rattle.basis_engine.specs.Deadlines.{smallestDeadline}
 use Rattle.basis_engine.specs.Refusals.{stateAndTime, freshRefusal, dropRefusal}
-use Rattle.basis_engine.specs.Calls.{fresh, freshOutcome, dropOutcome}
+use Rattle.basis_engine.specs.Calls.{freshOutcome, dropOutcome}
 use Rattle.basis_engine.specs.Machine.{refusalOf, outcomeOf, resultOf, Promised}
 use Rattle.engine_admission.specs.declared.Check.{Check}
 use Rattle.engine_admission.specs.declared.Check.the-variants.{Passed, Refused}
@@ -35,26 +36,14 @@ use Rattle.engine_decisions.specs.declared.Decision.{Decision}
 use Rattle.engine_decisions.specs.Decisions.{Declines, Decided}
 use Rattle.engine_decisions.proofs.Promises.{declined, decided}
 
-pub new-state : (hardware : HardwareAddress) (free : Record) → free ≡ freeRecord →
-    record {
-      hardware = hardware;
-      latest = record { 0 = 0 };
-      asked = Never;
-      conflicts = 0;
-      records = free ∷ free ∷ free ∷ free ∷ [];
-    }
-    ≡ freshOutcome hardware .state
-unfolding freshOutcome
-new-state hardware free e = rw e
-
--- `allowed` is what the test of the address answered.
-module _ (s : Interface) (hardware : HardwareAddress) (allowed : Bool) (told : allowed ≡ isOwnHardware hardware) where
-  pub fresh-refused : allowed ≡ false → Promised s (fresh hardware) (Answer.Refused HardwareNotAllowed) s []
+-- `allowed` is what the test of what was chosen answered.
+module _ (s : Interface) (setup : Setup) (allowed : Bool) (told : allowed ≡ isSoundSetup setup) where
+  pub fresh-refused : allowed ≡ false → Promised s (Call.Fresh setup) [] [] (Answer.Refused HardwareNotAllowed) s []
   unfolding answerReport resultOf refusalOf freshRefusal
   fresh-refused e = record { answered = rw (← told, e); handedBack = rw (← told, e); written = rw (← told, e) }
 
-  pub fresh-made : allowed ≡ true → (new : Interface) → new ≡ freshOutcome hardware .state →
-      Promised s (fresh hardware) (Answer.Accepted Fresh Absent Never) new []
+  pub fresh-made : allowed ≡ true → (new : Interface) → new ≡ newInterface setup →
+      Promised s (Call.Fresh setup) [] [] (Answer.Accepted Fresh Absent Never) new []
   unfolding answerReport resultOf refusalOf outcomeOf freshRefusal freshOutcome smallestDeadline
   fresh-made e new n = record { answered = rw (← told, e); handedBack = rw (← told, e) n; written = rw (← told, e) }
 

@@ -1,15 +1,15 @@
 // A port's state, made anew, and a slot of it freed.
-use engine_admission::Check;
 use basis::Answer;
 use basis::Called;
-use basis::HardwareAddress;
 use basis::Interface;
 use basis::Kind;
 use basis::Moment;
 use basis::Record;
 use basis::Refusal;
+use basis::Setup;
 use basis::SlotNumber;
 use basis::Time;
+use engine_admission::Check;
 use engine_decisions::Change;
 use engine_decisions::Decision;
 use engine_decisions::Outgoing;
@@ -22,32 +22,18 @@ ghost use lib.Dec.{ltb};
 ghost use Rattle.basis_engine.specs.Slots.{recordAt};
 ghost use Rattle.basis_engine.specs.Interface.{isFree};
 ghost use Rattle.basis_engine.specs.Refusals.{stateAndTime, dropRefusal};
-ghost use Rattle.basis_engine.specs.Calls.{freshOutcome, dropOutcome};
-ghost use Rattle.basis_engine.specs.Calls as Call;
+ghost use Rattle.basis.specs.declared.Call.the-variants as Call;
+ghost use Rattle.basis_engine.specs.Calls.{dropOutcome};
 ghost use Rattle.basis_engine.specs.Machine.{Promised};
 ghost use Rattle.engine_admission.specs.Rows.{checkOf};
 ghost use Rattle.engine_decisions.specs.Decisions.{Decided};
 
-// A new interface: time 0, count 0, no ask, four free slots.
-fn new_interface(hardware: HardwareAddress) -> Interface
-    ensures { λ r. ⌜ r ≡ freshOutcome hardware .state ⌝ }
-{
-    let free = engine_decisions::free_record();
-    Interface {
-        hardware,
-        latest: Time(0),
-        asked: Moment::Never,
-        conflicts: 0,
-        records: [free, free, free, free],
-    }
-}
-
 // Makes a new interface, in place of the state handed in. No slot of it has a deadline.
-pub fn fresh(state: Interface, hardware: HardwareAddress) -> Called
-    ensures { λ r. ⌜ Promised state (Call.fresh hardware) (r .answer) (r .state) [] ⌝ }
+pub fn fresh(state: Interface, setup: Setup) -> Called
+    ensures { λ r. ⌜ Promised state (Call.Fresh setup) [] [] (r .answer) (r .state) [] ⌝ }
 {
-    if engine_soundness::is_own_hardware(hardware) {
-        let new = new_interface(hardware);
+    if engine_soundness::is_sound_setup(setup) {
+        let new = engine_state::new_interface(setup);
         Called {
             answer: Answer::Accepted {
                 kind: Kind::Fresh,
@@ -68,7 +54,7 @@ pub fn fresh(state: Interface, hardware: HardwareAddress) -> Called
 fn is_vacant(records: [Record; 4], slot: u64) -> bool
     ensures { λ r. ⌜ r ≡ ltb 3 slot || isFree (recordAt records slot) ⌝ }
 {
-    let record = engine_decisions::record_at(records, slot);
+    let record = engine_slots::record_at(records, slot);
     let stage = record.stage;
     engine_slots::is_free(stage)
 }
@@ -85,7 +71,7 @@ pub fn drop(state: Interface, admitted: Check, time: Time, slot: u64) -> Decisio
     match check {
         Check::Refused(refusal) => engine_decisions::refused(refusal, state),
         Check::Passed => {
-            let free = engine_decisions::free_record();
+            let free = engine_slots::free_record();
             Decision {
                 verdict: Verdict::Accepted(Kind::Dropped),
                 change: Change {

@@ -11,43 +11,43 @@ use Rattle.basis.specs.declared.Stage.the-variants.{Free, Probing, Announced, S
 use Rattle.basis.specs.declared.Record.{Record}
 use Rattle.basis.specs.declared.Resolution.{Resolution}
 use Rattle.basis.specs.declared.Resolution.the-variants.{Lose, Defend, Keep}
-use Rattle.basis_engine.specs.Timing.{isWithin}
+use Rattle.basis_engine.specs.Timing.{isWithin, rfc5227}
 use Rattle.basis_engine.specs.Slots.{freeRecord}
 use Rattle.basis_engine.specs.Conflicts.{byPolicy, resolution, seenAt, recordAfter}
 
 -- `recent` is what the test of the interval answered.
 module _ (policy : ℕ) (now : Time) (last : Moment) where
-  pub policy-1 : policy ≡ 1 → Lose ≡ byPolicy policy now last
+  pub policy-1 : policy ≡ 1 → Lose ≡ byPolicy rfc5227 policy now last
   policy-1 h = rw (eq-eqb policy 1 h)
 
-  module _ (other : policy ≡ 1 → ⊥) (recent : Bool) (told : recent ≡ isWithin 10_000 now last) where
-    pub policy-defends : not recent ≡ true → Defend ≡ byPolicy policy now last
+  module _ (other : policy ≡ 1 → ⊥) (recent : Bool) (told : recent ≡ isWithin (rfc5227 .defendInterval) now last) where
+    pub policy-defends : not recent ≡ true → Defend ≡ byPolicy rfc5227 policy now last
     policy-defends h = rw (ne-eqb policy 1 other, ← told, h)
 
-    pub policy-2 : not recent ≡ false → policy ≡ 2 → Lose ≡ byPolicy policy now last
+    pub policy-2 : not recent ≡ false → policy ≡ 2 → Lose ≡ byPolicy rfc5227 policy now last
     policy-2 h k = rw (ne-eqb policy 1 other, ← told, h, eq-eqb policy 2 k)
 
-    pub policy-3 : not recent ≡ false → (policy ≡ 2 → ⊥) → Keep ≡ byPolicy policy now last
+    pub policy-3 : not recent ≡ false → (policy ≡ 2 → ⊥) → Keep ≡ byPolicy rfc5227 policy now last
     policy-3 h k = rw (ne-eqb policy 1 other, ← told, h, ne-eqb policy 2 k)
 
 -- Each way that `by_policy` ends.
 pub ruleset policy-ends = (policy-1, policy-defends, policy-2, policy-3)
 
 module _ (now : Time) (r : Record) where
-  pub resolution-free : r .stage ≡ Free → Keep ≡ resolution now r
+  pub resolution-free : r .stage ≡ Free → Keep ≡ resolution rfc5227 now r
   unfolding resolution
   resolution-free e = rw e
 
-  pub resolution-probing : (sent : ℕ) (deadline : Time) → r .stage ≡ Probing sent deadline → Lose ≡ resolution now r
+  pub resolution-probing : (sent : ℕ) (deadline : Time) → r .stage ≡ Probing sent deadline → Lose ≡ resolution rfc5227 now r
   unfolding resolution
   resolution-probing sent deadline e = rw e
 
-  module _ (chosen : Resolution) (last : Moment) (told : chosen ≡ byPolicy (r .policy) now last) where
-    pub resolution-announced : (deadline : Time) → r .stage ≡ Announced deadline last → chosen ≡ resolution now r
+  module _ (chosen : Resolution) (last : Moment) (told : chosen ≡ byPolicy rfc5227 (r .policy) now last) where
+    pub resolution-announced : (deadline : Time) → r .stage ≡ Announced deadline last → chosen ≡ resolution rfc5227 now r
     unfolding resolution
     resolution-announced deadline e = rw e told
 
-    pub resolution-settled : r .stage ≡ Settled last → chosen ≡ resolution now r
+    pub resolution-settled : r .stage ≡ Settled last → chosen ≡ resolution rfc5227 now r
     unfolding resolution
     resolution-settled e = rw e told
 

@@ -8,12 +8,13 @@ use basis::Stage;
 use basis::Time;
 ghost use mathlib.Core.Path.{_≡_};
 ghost use Rattle.basis.specs.declared.Resolution.the-variants.{Keep};
+ghost use Rattle.basis_engine.specs.Timing.{rfc5227};
 ghost use Rattle.basis_engine.specs.Conflicts.{byPolicy, seenAt, recordAfter, resolutionKind};
 ghost use Rattle.basis_engine.specs.Conflicts as Conflicts;
 
 // What a conflict with a usable record calls for.
 fn by_policy(policy: u8, now: Time, last: Moment) -> Resolution
-    ensures { λ r. ⌜ r ≡ byPolicy policy now last ⌝ }
+    ensures { λ r. ⌜ r ≡ byPolicy rfc5227 policy now last ⌝ }
 {
     let recent = engine_timing::is_within(DEFEND_INTERVAL, now, last);
     if policy == 1 {
@@ -29,7 +30,7 @@ fn by_policy(policy: u8, now: Time, last: Moment) -> Resolution
 
 // What a conflict with a record calls for.
 pub fn resolution(held: Record, now: Time) -> Resolution
-    ensures { λ r. ⌜ r ≡ Conflicts.resolution now held ⌝ }
+    ensures { λ r. ⌜ r ≡ Conflicts.resolution rfc5227 now held ⌝ }
 {
     let policy = held.policy;
     let stage = held.stage;
@@ -81,7 +82,7 @@ fn seen(now: Time, held: Record) -> Record
 pub fn record_after(resolution: Resolution, now: Time, held: Record) -> Record
     ensures { λ r. ⌜ r ≡ recordAfter resolution now held ⌝ }
 {
-    let free = engine_decisions::free_record();
+    let free = engine_slots::free_record();
     let marked = seen(now, held);
     match resolution {
         Resolution::Lose => free,

@@ -2,14 +2,14 @@
 use Prim.Native.Nat.{ℕ, suc, _-_, _≤_, _<_}
 use mathlib.Core.Path.{_≡_, refl, sym, ap, _∙_}
 use mathlib.Core.List.{List, [], _∷_}
-use mathlib.Core.Bool.{Bool, false, cond, _||_}
-use mathlib.Core.Option.{Option, none, some}
+use mathlib.Core.Bool.{Bool, false, _||_}
+use mathlib.Core.Option.{none}
 use mathlib.Core.Logic.{_⊎_, inl, ⊎-elim}
 use native.Mathlib.Omega.{arith}
 use lib.ListN.{length, drop, drop-of-length-le}
 use lib.Seq.{drop-cons}
 use Rattle.basis.specs.declared.Record.{Record}
-use Rattle.basis_engine.specs.Slots.{freeRecord, recordAt, any, lowestFrom}
+use Rattle.basis_engine.specs.Slots.{freeRecord, recordAt, any}
 
 -- A scan: its value over records of which the first is slot n, what it sees in a record and those after it, and how that adds
 -- to the value of those.
@@ -75,39 +75,6 @@ module _ {A B : Type 0} (scan : Scan A B) where
 
   pub done : Done scan
   done records four i h = done-at records four 0 i h (inl (omega arith))
-
--- The scan for the lowest slot of which a test holds.
-module _ (test : Record → Bool) where
-  pub lowest-empty : (n : ℕ) → lowestFrom n test [] ≡ none
-  unfolding lowestFrom
-  lowest-empty n = refl
-
-  pub lowest-made : (n : ℕ) (r : Record) (rest : List Record) →
-      lowestFrom n test (r ∷ rest) ≡ cond (test r) (some n) (lowestFrom (suc n) test rest)
-  unfolding lowestFrom
-  lowest-made n r rest = refl
-
-  abbrev pub lowestScan : Scan (Option ℕ) Bool
-  lowestScan =
-      record {
-        value = λ (n : ℕ) (rs : List Record). lowestFrom n test rs;
-        none = none;
-        see = λ (r : Record) (rest : List Record). test r;
-        step = λ (n : ℕ) (seen : Bool) (above : Option ℕ). cond seen (some n) above;
-        empty = lowest-empty;
-        made = lowest-made;
-      }
-
-pub lowest-begins : (test : Record → Bool) → Begins (lowestScan test)
-lowest-begins test = begins (lowestScan test)
-
-pub lowest-down : (test : Record → Bool) → Down (lowestScan test)
-lowest-down test = down (lowestScan test)
-
-pub lowest-done : (test : Record → Bool) → Done (lowestScan test)
-lowest-done test = done (lowestScan test)
-
-pub ruleset lowest-loop = (lowest-begins, lowest-down, lowest-done)
 
 -- The scan that asks whether a test holds of one of the records.
 module _ (test : Record → Bool) where

@@ -1,15 +1,65 @@
-// Scans of the four records. Each counts down over the slot number, so that the lowest slot has the last word.
+// The four records: one read and one replaced, the lowest slot of which a test holds, and whether an address is held.
 use basis::Ipv4Address;
 use basis::Record;
 use basis::SlotNumber;
 use basis::Stage;
 ghost use mathlib.Core.Path.{_≡_};
 ghost use mathlib.Core.Bool.{cond};
+ghost use mathlib.Core.List.{[], _∷_};
 ghost use mathlib.Core.Option.{some};
+ghost use lib.Dec.{eqb};
 ghost use lib.ListN.{drop};
 ghost use Rattle.basis.specs.Answers.{slotOf};
-ghost use Rattle.basis_engine.specs.Slots.{lowest};
+ghost use Rattle.basis_engine.specs.Slots.{freeRecord, recordAt, putAt};
+ghost use Rattle.basis_engine.specs.Slots as Slots;
 ghost use Rattle.basis_engine.specs.Interface.{isFreeStage, isFree, holds, isHeld};
+ghost use Rattle.engine_slots.specs.Tests.{lowestOf};
+
+// A free slot's record.
+pub fn free_record() -> Record
+    ensures { λ r. ⌜ r ≡ freeRecord ⌝ }
+{
+    Record {
+        address: Ipv4Address(0),
+        policy: 0,
+        stage: Stage::Free,
+    }
+}
+
+// A record, or the new one if two slots are the same.
+fn replaced(slot: u64, old: Record, place: u64, new: Record) -> Record
+    ensures { λ r. ⌜ r ≡ cond (eqb slot place) new old ⌝ }
+{
+    if slot == place { new } else { old }
+}
+
+// The record in a slot: the free one above the last. Each of the four is named: an index that may be any of them would keep them
+// all in memory.
+pub fn record_at(records: [Record; 4], slot: u64) -> Record
+    ensures { λ r. ⌜ r ≡ recordAt records slot ⌝ }
+{
+    let above = free_record();
+    let fourth = replaced(3, above, slot, records[3]);
+    let third = replaced(2, fourth, slot, records[2]);
+    let second = replaced(1, third, slot, records[1]);
+    replaced(0, second, slot, records[0])
+}
+
+// The records with this one in a slot, where there is one.
+pub fn put_at(records: [Record; 4], slot: SlotNumber, new: Record) -> [Record; 4]
+    ensures { λ r. ⌜ r ≡ putAt records (slotOf slot) new ⌝ }
+{
+    match slot {
+        SlotNumber::Absent => records,
+        SlotNumber::Slot(n) => {
+            let first = replaced(0, records[0], n, new);
+            let second = replaced(1, records[1], n, new);
+            let third = replaced(2, records[2], n, new);
+            let fourth = replaced(3, records[3], n, new);
+            [first, second, third, fourth]
+        }
+    }
+}
 
 // Whether a slot in this stage is free.
 pub fn is_free(stage: Stage) -> bool
@@ -30,26 +80,39 @@ pub fn is_free(stage: Stage) -> bool
 }
 
 // The slot if a test of it held, else the lowest above it of which it did.
-pub fn lower(held: bool, slot: u64, above: SlotNumber) -> SlotNumber
+fn lower(held: bool, slot: u64, above: SlotNumber) -> SlotNumber
     ensures { λ r. ⌜ slotOf r ≡ cond held (some slot) (slotOf above) ⌝ }
 {
     if held { SlotNumber::Slot(slot) } else { above }
 }
 
+// The lowest slot of which a test held, by the tests of slots 0 to 3.
+pub fn lowest(first: bool, second: bool, third: bool, fourth: bool) -> SlotNumber
+    ensures { λ r. ⌜ slotOf r ≡ lowestOf 0 (first ∷ second ∷ third ∷ fourth ∷ []) ⌝ }
+{
+    let best = lower(fourth, 3, SlotNumber::Absent);
+    let best = lower(third, 2, best);
+    let best = lower(second, 1, best);
+    lower(first, 0, best)
+}
+
+// Whether a slot with this record is free.
+fn is_vacant(held: Record) -> bool
+    ensures { λ r. ⌜ r ≡ isFree held ⌝ }
+{
+    let stage = held.stage;
+    is_free(stage)
+}
+
 // The lowest free slot.
 pub fn free_slot(records: [Record; 4]) -> SlotNumber
-    ensures { λ r. ⌜ slotOf r ≡ lowest isFree records ⌝ }
+    ensures { λ r. ⌜ slotOf r ≡ Slots.lowest isFree records ⌝ }
 {
-    let mut best = SlotNumber::Absent;
-    let mut i: usize = 4;
-    while 0 < i {
-        i -= 1;
-        let record = records[i];
-        let stage = record.stage;
-        let free = is_free(stage);
-        best = lower(free, i as u64, best);
-    }
-    best
+    let first = is_vacant(records[0]);
+    let second = is_vacant(records[1]);
+    let third = is_vacant(records[2]);
+    let fourth = is_vacant(records[3]);
+    lowest(first, second, third, fourth)
 }
 
 // Whether a record holds an address.

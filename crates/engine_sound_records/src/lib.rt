@@ -7,6 +7,7 @@ use basis::Record;
 use basis::Stage;
 use basis::Time;
 ghost use mathlib.Core.Path.{_≡_};
+ghost use Rattle.basis_engine.specs.Timing.{rfc5227};
 ghost use Rattle.basis_engine.specs.Slots.{all};
 ghost use Rattle.basis_engine.specs.Interface.{isAllowed, isPolicy, isPast, isNear, isSoundStage, isSoundRecord};
 
@@ -44,7 +45,7 @@ fn is_near(latest: Time, deadline: Time) -> bool
 
 // What a sound state asks of one stage, and of one record.
 fn is_sound_stage(latest: Time, stage: Stage) -> bool
-    ensures { λ r. ⌜ r ≡ isSoundStage latest stage ⌝ }
+    ensures { λ r. ⌜ r ≡ isSoundStage rfc5227 latest stage ⌝ }
 {
     match stage {
         Stage::Free => true,
@@ -56,7 +57,7 @@ fn is_sound_stage(latest: Time, stage: Stage) -> bool
 }
 
 fn is_sound_record(latest: Time, held: Record) -> bool
-    ensures { λ r. ⌜ r ≡ isSoundRecord latest held ⌝ }
+    ensures { λ r. ⌜ r ≡ isSoundRecord rfc5227 latest held ⌝ }
 {
     let stage = held.stage;
     let address = held.address;
@@ -70,7 +71,7 @@ fn is_sound_record(latest: Time, held: Record) -> bool
 
 // Whether every record is sound.
 pub fn are_sound(latest: Time, records: [Record; 4]) -> bool
-    ensures { λ r. ⌜ r ≡ all (isSoundRecord latest) records ⌝ }
+    ensures { λ r. ⌜ r ≡ all (isSoundRecord rfc5227 latest) records ⌝ }
 {
     let mut sound = true;
     let mut i: usize = 4;

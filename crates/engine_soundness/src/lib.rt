@@ -5,16 +5,25 @@ use basis::Interface;
 use basis::LAST_TIME;
 use basis::MAX_CONFLICTS;
 use basis::Record;
+use basis::Setup;
 ghost use mathlib.Core.Path.{_≡_};
 ghost use lib.ListN.{drop};
-ghost use Rattle.basis_engine.specs.Interface.{isAlone, isOwnHardware, holdsNoneTwice, isSound};
+ghost use Rattle.basis_engine.specs.Interface.{isAlone, isOwnHardware, isSoundSetup, holdsNoneTwice, isSound};
 
 // Whether an own hardware address has 48 bits, isn't zero, and its first byte is even.
-pub fn is_own_hardware(address: HardwareAddress) -> bool
+fn is_own_hardware(address: HardwareAddress) -> bool
     ensures { λ r. ⌜ r ≡ isOwnHardware address ⌝ }
 {
     let bits = address.0;
     (bits < HARDWARE_END) & (bits != 0) & (bits / 1099511627776 % 2 == 0)
+}
+
+// Whether this can be chosen at fresh.
+pub fn is_sound_setup(setup: Setup) -> bool
+    ensures { λ r. ⌜ r ≡ isSoundSetup setup ⌝ }
+{
+    let hardware = setup.hardware;
+    is_own_hardware(hardware)
 }
 
 // Whether a record is free, or no slot from `above` on holds its address.
@@ -49,11 +58,11 @@ fn holds_none_twice(records: [Record; 4]) -> bool
 pub fn is_sound(state: Interface) -> bool
     ensures { λ r. ⌜ r ≡ isSound state ⌝ }
 {
-    let hardware = state.hardware;
+    let setup = state.setup;
     let latest = state.latest;
     let asked = state.asked;
     let records = state.records;
-    is_own_hardware(hardware)
+    is_sound_setup(setup)
         & (latest.0 <= LAST_TIME)
         & (state.conflicts <= MAX_CONFLICTS)
         & engine_sound_records::is_past(latest, asked)

@@ -1,10 +1,9 @@
 // Ticks: the slot that is due is served, with one frame.
-use engine_admission::Check;
 use basis::Interface;
 use basis::Record;
-use basis::Refusal;
 use basis::SlotNumber;
 use basis::Time;
+use engine_admission::Check;
 use engine_decisions::Change;
 use engine_decisions::Decision;
 use engine_decisions::Verdict;
@@ -23,15 +22,16 @@ fn serve(state: Interface, time: Time, draw: u32, slot: u64) -> Decision
     requires { ⌜ time .0 ≤ lastTime ⌝ }
     ensures { λ r. ⌜ Decides state (Call.serve state time draw (some slot)) r ⌝ }
 {
-    let own = state.hardware;
+    let setup = state.setup;
     let asked = state.asked;
     let records = state.records;
-    let claim = engine_decisions::record_at(records, slot);
-    let service = engine_due::served(own, time, draw, claim);
-    let kind = service.kind;
-    let stage = service.stage;
-    let frame = service.frame;
+    let claim = engine_slots::record_at(records, slot);
+    let due = engine_due::due_frame(setup, claim);
+    let kind = due.kind;
+    let frame = due.frame;
     let address = claim.address;
+    let before = claim.stage;
+    let stage = engine_due::stage_after(time, draw, before);
     Decision {
         verdict: Verdict::Accepted(kind),
         change: Change {
@@ -53,9 +53,9 @@ fn serve(state: Interface, time: Time, draw: u32, slot: u64) -> Decision
 // out buffer.
 pub fn tick(state: Interface, admitted: Check, time: Time, draw: u32, room: usize) -> Decision
     requires { ⌜ checkOf admitted ≡ stateAndTime state time none ⌝ }
-    ensures { λ r. ⌜ Decided state (tickRefusal state time room) (tickOutcome state time draw) r ⌝ }
+    ensures { λ r. ⌜ Decided state (tickRefusal state time draw room) (tickOutcome state time draw) r ⌝ }
 {
-    let check = engine_admission::row(admitted, Refusal::BufferTooShort, room < 28);
+    let check = engine_admission::row_of_room(admitted, room);
     match check {
         Check::Refused(refusal) => engine_decisions::refused(refusal, state),
         Check::Passed => {

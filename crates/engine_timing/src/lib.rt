@@ -5,19 +5,19 @@ use basis::PROBE_MIN;
 use basis::PROBE_WAIT;
 use basis::Time;
 ghost use mathlib.Core.Path.{_≡_};
-ghost use Rattle.basis_engine.specs.Timing.{isWithin};
+ghost use Rattle.basis_engine.specs.Timing.{rfc5227, isWithin};
 ghost use Rattle.basis_engine.specs.Timing as Timing;
 
 // The first wait, in ms.
 pub fn wait(draw: u32) -> u64
-    ensures { λ r. ⌜ r ≡ Timing.wait draw ⌝ }
+    ensures { λ r. ⌜ r ≡ Timing.wait rfc5227 draw ⌝ }
 {
     draw as u64 % (PROBE_WAIT + 1)
 }
 
 // A gap between two probes, in ms.
 pub fn gap(draw: u32) -> u64
-    ensures { λ r. ⌜ r ≡ Timing.gap draw ⌝ }
+    ensures { λ r. ⌜ r ≡ Timing.gap rfc5227 draw ⌝ }
 {
     PROBE_MIN + draw as u64 % (PROBE_MAX - PROBE_MIN + 1)
 }

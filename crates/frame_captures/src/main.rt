@@ -1,11 +1,12 @@
 // Reads frames of captures made with other makers' programs, one a line as 56 hex digits, and writes each again. For each it
 // prints the operation, the sender's and the target's addresses, and whether the bytes written are the bytes read.
-use libc::STDIN_FILENO;
-use libc::STDOUT_FILENO;
+use basis::FRAME_LENGTH;
 use basis::Frame;
 use basis::Host;
 use basis::ReadAnswer;
 use basis::WriteAnswer;
+use libc::STDIN_FILENO;
+use libc::STDOUT_FILENO;
 ghost use Prim.Native.Nat.{_<_};
 
 // The value of a hex digit. The input is our own data: on any other byte it gives some digit.
@@ -19,10 +20,10 @@ fn digit(c: u8) -> u8
     }
 }
 
-fn decode(line: [u8; 57]) -> [u8; 28] {
-    let mut bytes = [0u8; 28];
+fn decode(line: [u8; 57]) -> [u8; FRAME_LENGTH] {
+    let mut bytes = [0u8; FRAME_LENGTH];
     let mut i: usize = 0;
-    while i < 28 {
+    while i < FRAME_LENGTH {
         let high = digit(line[2 * i]);
         let low = digit(line[2 * i + 1]);
         bytes[i] = high * 16 + low;
@@ -46,8 +47,8 @@ fn print_fields(frame: Frame) {
     print_host(target);
 }
 
-fn write_again(frame: Frame, bytes: [u8; 28]) {
-    let mut out = [0u8; 28];
+fn write_again(frame: Frame, bytes: [u8; FRAME_LENGTH]) {
+    let mut out = [0u8; FRAME_LENGTH];
     match frame_writer::write(frame, &mut out) {
         WriteAnswer::Refused(_) => {
             io::write_all(STDOUT_FILENO, b" not written\n");
@@ -62,7 +63,7 @@ fn write_again(frame: Frame, bytes: [u8; 28]) {
     }
 }
 
-fn report(bytes: [u8; 28]) {
+fn report(bytes: [u8; FRAME_LENGTH]) {
     match frame_reader::read(&bytes) {
         ReadAnswer::Refused(_) => {
             io::write_all(STDOUT_FILENO, b"refused\n");

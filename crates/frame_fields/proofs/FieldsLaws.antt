@@ -5,11 +5,11 @@ use mathlib.Core.List.{List}
 use native.Mathlib.Omega.{arith}
 use lib.ListN.{length}
 use Rattle.basis.specs.Bytes.{numberOf, numberAt}
-use Rattle.basis.specs.Frame.{frameOf}
+use Rattle.basis.specs.Frame.{frameOf, frameLength}
 use Rattle.basis.proofs.BytesLaws.{elements, part-elements}
 
 -- Fields that are the numbers of their bytes are those of the frame.
-pub fields-frame : (bytes : List ℕ) → 28 ≤ length bytes →
+pub fields-frame : (bytes : List ℕ) → frameLength ≤ length bytes →
     (operation : ℕ) → operation ≡ numberOf (elements 2 6 bytes) →
     (sender-hardware : ℕ) → sender-hardware ≡ numberOf (elements 6 8 bytes) →
     (sender-ip : ℕ) → sender-ip ≡ numberOf (elements 4 14 bytes) →

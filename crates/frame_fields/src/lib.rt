@@ -6,11 +6,11 @@ use basis::Ipv4Address;
 ghost use mathlib.Core.Path.{_≡_};
 ghost use Prim.Native.Nat.{_≤_};
 ghost use lib.ListN.{length};
-ghost use Rattle.basis.specs.Frame.{frameOf};
+ghost use Rattle.basis.specs.Frame.{frameLength, frameOf};
 
 // The fields of 28 or more bytes.
 pub fn fields(bytes: &[u8]) -> Frame
-    requires { ⌜ 28 ≤ length (now bytes) ⌝ }
+    requires { ⌜ frameLength ≤ length (now bytes) ⌝ }
     ensures { λ r. ⌜ r ≡ frameOf (now (bytes .entry)) ⌝ }
 {
     let operation = frame::number2(bytes[6], bytes[7]);

@@ -1,13 +1,14 @@
 // The bytes of an ARP frame of RFC 826, for Ethernet and IPv4: 28, most significant first.
-use frame::REQUEST;
+use basis::FRAME_LENGTH;
 use basis::Frame;
+use frame::REQUEST;
 ghost use mathlib.Core.Path.{_≡_};
 ghost use mathlib.Core.List.{_++_};
 ghost use lib.ListN.{drop};
 ghost use Rattle.basis.specs.Frame.{requestHeader, frameBytes};
 
 // A request's bytes, with the frame's addresses.
-fn request(frame: Frame) -> [u8; 28]
+fn request(frame: Frame) -> [u8; FRAME_LENGTH]
     ensures { λ r. ⌜ r ≡ requestHeader ++ drop 8 (frameBytes frame) ⌝ }
 {
     let header = REQUEST;
@@ -48,7 +49,7 @@ fn request(frame: Frame) -> [u8; 28]
 }
 
 // A frame's bytes: those of a request, but for another operation.
-pub fn image(frame: Frame) -> [u8; 28]
+pub fn image(frame: Frame) -> [u8; FRAME_LENGTH]
     ensures { λ r. ⌜ r ≡ frameBytes frame ⌝ }
 {
     let operation = frame.operation;

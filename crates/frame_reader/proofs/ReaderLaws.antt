@@ -9,17 +9,17 @@ use lib.Seq.{length-take-le}
 use borrow.Author.Tests.{lt-ltb, le-ltb}
 use Rattle.basis.specs.Answers.{refused, accepted}
 use Rattle.basis.specs.Bytes.{numberOf, numberAt, sameBytes}
-use Rattle.basis.specs.Frame.{requestHeader, isKnownOperation, frameOf, isKnownFrame, readRefusal, readOf}
+use Rattle.basis.specs.Frame.{requestHeader, isKnownOperation, frameOf, isKnownFrame, readRefusal, readOf, frameLength}
 use Rattle.basis.specs.declared.Frame.{Frame}
 use Rattle.basis.proofs.BytesLaws.{elements, part-elements, same-equal}
 
-pub prefix-length : (n : ℕ) (bytes : List ℕ) → n ≤ 28 → 28 ≤ length bytes → n ≡ length (take n bytes)
+pub prefix-length : (n : ℕ) (bytes : List ℕ) → n ≤ frameLength → frameLength ≤ length bytes → n ≡ length (take n bytes)
 prefix-length n bytes h k = sym (length-take-le n bytes (omega arith))
 
 module _ (bytes : List ℕ) where
   -- `same` is what comparing the first six bytes answered.
   module _ (same : Bool) (told : (same ≡ true → take 6 bytes ≡ take 6 requestHeader) × (take 6 bytes ≡ take 6 requestHeader → same ≡ true)) where
-    pub header-same : same ≡ true → 28 ≤ length bytes → (operation : ℕ) → operation ≡ numberOf (elements 2 6 bytes) →
+    pub header-same : same ≡ true → frameLength ≤ length bytes → (operation : ℕ) → operation ≡ numberOf (elements 2 6 bytes) →
         (known : Bool) → known ≡ isKnownOperation operation → known ≡ isKnownFrame bytes
     unfolding isKnownFrame
     header-same h long operation o known k = rw (told .0 h, part-elements 2 6 bytes (omega arith), ← o) k
@@ -33,19 +33,19 @@ module _ (bytes : List ℕ) where
         go true e = absurd (true≢false (sym (told .1 (same-equal (take 6 bytes) (take 6 requestHeader) e)) ∙ h))
         go false e = rw e
 
-  pub read-short : length bytes < 28 → refused 6 ≡ readOf bytes
+  pub read-short : length bytes < frameLength → refused 6 ≡ readOf bytes
   unfolding readOf readRefusal
-  read-short h = rw (lt-ltb (length bytes) 28 h)
+  read-short h = rw (lt-ltb (length bytes) frameLength h)
 
   -- `known` is what the test of the header answered.
-  module _ (long : 28 ≤ length bytes) (known : Bool) (told : known ≡ isKnownFrame bytes) where
+  module _ (long : frameLength ≤ length bytes) (known : Bool) (told : known ≡ isKnownFrame bytes) where
     pub read-foreign : known ≡ false → refused 7 ≡ readOf bytes
     unfolding readOf readRefusal
-    read-foreign k = rw (le-ltb (length bytes) 28 long, ← told, k)
+    read-foreign k = rw (le-ltb (length bytes) frameLength long, ← told, k)
 
     pub read-whole : known ≡ true → (f : Frame) → f ≡ frameOf bytes → accepted f ≡ readOf bytes
     unfolding readOf readRefusal
-    read-whole k f p = rw (le-ltb (length bytes) 28 long, ← told, k) (ap accepted p)
+    read-whole k f p = rw (le-ltb (length bytes) frameLength long, ← told, k) (ap accepted p)
 
 -- Each way that `read` ends.
 pub ruleset read-ends = (read-short, read-whole, read-foreign)

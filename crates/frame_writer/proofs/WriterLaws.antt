@@ -10,7 +10,7 @@ use lib.Seq.{length-take-le, take-take}
 use lib.Dec.{ltb}
 use borrow.Author.Tests.{lt-ltb, le-ltb}
 use Rattle.basis.specs.Answers.{refusalNumber, refused, accepted}
-use Rattle.basis.specs.Frame.{isKnownOperation, frameBytes, isWritable, writeRefusal, writeOf, framePut, writeOut, writeReport}
+use Rattle.basis.specs.Frame.{isKnownOperation, frameBytes, isWritable, writeRefusal, writeOf, framePut, writeOut, writeReport, frameLength}
 use Rattle.basis.specs.declared.Frame.{Frame}
 use Rattle.basis.specs.declared.WriteAnswer.{WriteAnswer}
 use Rattle.basis.specs.declared.WriteAnswer.the-variants.{Refused, Written}
@@ -34,17 +34,17 @@ module _ (f : Frame) where
     good-sender k h = rw (← told, k, lt-ltb (f .sender .hardware .0) (2 ^ 48) h)
 
   module _ (room : ℕ) (writable : Bool) (told : writable ≡ isWritable f) where
-    pub write-short : room < 28 → refused 5 ≡ writeOf f room
+    pub write-short : room < frameLength → refused 5 ≡ writeOf f room
     unfolding writeOf writeRefusal
-    write-short h = rw (lt-ltb room 28 h)
+    write-short h = rw (lt-ltb room frameLength h)
 
-    pub write-foreign : 28 ≤ room → writable ≡ false → refused 7 ≡ writeOf f room
+    pub write-foreign : frameLength ≤ room → writable ≡ false → refused 7 ≡ writeOf f room
     unfolding writeOf writeRefusal
-    write-foreign h w = rw (le-ltb room 28 h, ← told, w)
+    write-foreign h w = rw (le-ltb room frameLength h, ← told, w)
 
-    pub write-whole : 28 ≤ room → writable ≡ true → accepted tt ≡ writeOf f room
+    pub write-whole : frameLength ≤ room → writable ≡ true → accepted tt ≡ writeOf f room
     unfolding writeOf writeRefusal
-    write-whole h w = rw (le-ltb room 28 h, ← told, w)
+    write-whole h w = rw (le-ltb room frameLength h, ← told, w)
 
   -- What an answer lets out leaves the out buffer as a write does, has room there, and is of the frame.
   answer-leaves : (answer : WriteAnswer) (out : List ℕ) → writeReport answer ≡ writeOf f (length out) →
@@ -60,7 +60,7 @@ module _ (f : Frame) where
   answer-room Written room e =
       let fits = write-accepted f room (accepted-none (writeRefusal f room) tt tt e) in omega arith
 
-  at-most : (answer : WriteAnswer) → bytesWritten answer ≤ 28
+  at-most : (answer : WriteAnswer) → bytesWritten answer ≤ frameLength
   at-most (Refused refusal) = omega arith
   at-most Written = omega arith
 

@@ -1,4 +1,5 @@
 // Writing an ARP frame: its 28 bytes to the start of the out buffer, or a refusal.
+use basis::FRAME_LENGTH;
 use basis::Frame;
 use basis::HARDWARE_END;
 use basis::Refusal;
@@ -26,7 +27,7 @@ fn write_answer(frame: Frame, room: usize) -> WriteAnswer
     ensures { λ r. ⌜ writeReport r ≡ writeOf frame room ⌝ }
 {
     let writable = is_writable(frame);
-    if room < 28 {
+    if room < FRAME_LENGTH {
         WriteAnswer::Refused(Refusal::BufferTooShort)
     } else if writable {
         WriteAnswer::Written
@@ -41,7 +42,7 @@ fn bytes_written(answer: WriteAnswer) -> usize
 {
     match answer {
         WriteAnswer::Refused(_) => 0,
-        WriteAnswer::Written => 28,
+        WriteAnswer::Written => FRAME_LENGTH,
     }
 }
 

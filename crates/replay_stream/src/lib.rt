@@ -88,7 +88,7 @@ pub fn work(stream: Stream, input: &[u8], out: &mut [u8]) -> Worked
         sound = replay_turns::is_sound(state, sound);
         let answered = replay_turns::answer_at(state, sound, skipping, line, out, done);
         let next = answered.state;
-        state = engine_copy::interface(next);
+        state = engine_state::copy(next);
         skipping = false;
         at += line.len() + 1;
         done += answered.written;

@@ -57,6 +57,7 @@ fn above_the_range_reports_the_step() {
     widens(LAST_TIME, 2_147_483_646, 2_147_483_647, Err(3));
 }
 
+/// (reading clock-order)
 #[test]
 fn backward_at_the_end_of_the_range() {
     widens(LAST_TIME, u32::MAX - 1, -1, Err(4));

@@ -27,6 +27,7 @@ fn read_ignores_bytes_after_the_28th() {
     assert_eq!(Frame::read(&long), Ok(ANY));
 }
 
+/// (reading any-addresses)
 #[test]
 fn read_takes_any_addresses_at_all() {
     let mut ones = bytes(ANY_TEXT);
@@ -54,6 +55,7 @@ fn write_into_exactly_28_bytes() {
     assert_eq!(out[..], bytes(ANY_TEXT));
 }
 
+/// (reading hardware-48-bits)
 #[test]
 fn write_refuses_hardware_of_49_bits() {
     for wrong in [

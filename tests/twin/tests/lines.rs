@@ -151,6 +151,7 @@ fn numbers_are_read_in_full() {
     ]);
 }
 
+/// (reading unused-draw)
 #[test]
 fn draws_past_the_largest() {
     not_in_form(&["tick_0_4294967296", "ask_0_1.2.3.4_1_4294967296"]);
@@ -202,6 +203,7 @@ fn addresses_not_in_the_form() {
     }
 }
 
+/// (reading addresses-in-form)
 #[test]
 fn addresses_in_the_form() {
     gives("ask_0_1.2.3.4_1_0", "ok_taken_0_0_-");
@@ -306,6 +308,7 @@ fn three_thousand_digits_and_more() {
     gives(&filled(4_000), "refused_14");
 }
 
+/// (reading line-limit)
 #[test]
 fn the_longest_line_and_one_byte_more() {
     // No line in the form has 4,096 bytes, so both are 14, and each is one.
@@ -324,6 +327,7 @@ fn a_good_start_does_not_save_a_long_line() {
     assert_eq!(answer_to(&line), "refused\t14\n");
 }
 
+/// (reading carriage-return)
 #[test]
 fn carriage_returns() {
     not_in_form(&["tick_1_0\r", "fresh_02000000000a\r", "packet_0_\r", "\r"]);
@@ -342,6 +346,7 @@ fn a_byte_10_inside_is_foreign() {
     assert_eq!(answer_to(b"packet\t1\t00\n"), "refused\t14\n");
 }
 
+/// (reading unended-line)
 #[test]
 fn an_unended_last_line() {
     assert_eq!(replay(b"fresh\t02000000000a"), b"refused\t14\n");

@@ -1,4 +1,5 @@
-//! Places of document 01 with two readings: the one taken, as docs/DECISIONS.md has it.
+//! Places of document 01 with two readings: the one taken, by its name in
+//! docs/DECISIONS.md.
 
 mod common;
 
@@ -9,6 +10,7 @@ fn met(state: &mut Interface, time: u64, bytes: &[u8]) -> twin::Answer {
     state.packet(Time(time), bytes, &mut [0; 28]).unwrap()
 }
 
+/// (reading none-has-no-slot)
 #[test]
 fn kind_none_names_no_slot() {
     let mut state = holding(5, SEVEN, 2, settled(None));
@@ -21,11 +23,13 @@ fn kind_none_names_no_slot() {
     );
 }
 
+/// (reading malformed-makes-no-call)
 #[test]
 fn a_line_not_in_the_form_is_14_before_fresh() {
     check(&[("tick_1_x", "refused_14"), ("tick_1_0", "refused_1")]);
 }
 
+/// (reading deadline-above-range)
 #[test]
 fn a_deadline_above_the_range() {
     check(&[
@@ -54,6 +58,7 @@ fn a_deadline_above_the_range() {
     assert!(state.is_sound());
 }
 
+/// (reading empty-packet-field)
 #[test]
 fn an_empty_packet_field_is_in_the_form() {
     check(&[
@@ -63,6 +68,7 @@ fn an_empty_packet_field_is_in_the_form() {
     ]);
 }
 
+/// (reading next-of-all-slots)
 #[test]
 fn overdue_deadlines_are_reported_too() {
     check(&[
@@ -73,6 +79,7 @@ fn overdue_deadlines_are_reported_too() {
     ]);
 }
 
+/// (reading defence-keeps-deadline)
 #[test]
 fn a_defence_changes_neither_stage_nor_deadline() {
     let mut state = holding(100, SEVEN, 2, announced(2_000, None));
@@ -85,6 +92,7 @@ fn a_defence_changes_neither_stage_nor_deadline() {
     assert_eq!(met(&mut state, 10_199, &claim).kind, Kind::Lost);
 }
 
+/// (reading count-never-falls)
 #[test]
 fn the_count_falls_only_with_fresh() {
     let mut state = interface(0);
@@ -106,6 +114,7 @@ fn the_count_falls_only_with_fresh() {
     check(&lines);
 }
 
+/// (reading request-is-an-ask)
 #[test]
 fn a_request_is_an_accepted_ask() {
     let mut state = holding(0, SEVEN, 3, probing(0, 0));
@@ -117,6 +126,7 @@ fn a_request_is_an_accepted_ask() {
     assert!(state.ask(Time(60_000), EIGHT, 1, 0).is_ok());
 }
 
+/// (reading both-announce)
 #[test]
 fn both_announcements_have_the_kind_announce() {
     for stage in [probing(3, 0), announced(0, None)] {
@@ -126,6 +136,7 @@ fn both_announcements_have_the_kind_announce() {
     }
 }
 
+/// (reading accepted-sets-time)
 #[test]
 fn every_accepted_call_sets_the_latest_time() {
     let none = packet(20, &frame_text(1, OTHER_TEXT, EIGHT.0, 0));
@@ -148,12 +159,14 @@ fn every_accepted_call_sets_the_latest_time() {
     ]);
 }
 
+/// (reading unended-line)
 #[test]
 fn an_unended_line_is_14_and_its_answer_ends() {
     assert_eq!(replay(b"\n"), b"refused\t14\n");
     assert_eq!(replay(b"fresh\t02000000000a"), b"refused\t14\n");
 }
 
+/// (reading whole-numbers)
 #[test]
 fn numbers_are_compared_whole() {
     check(&[
@@ -170,6 +183,7 @@ fn numbers_are_compared_whole() {
     ]);
 }
 
+/// (readings addresses-in-form, carriage-return)
 #[test]
 fn addresses_in_the_form_and_not() {
     check(&[
@@ -182,6 +196,7 @@ fn addresses_in_the_form_and_not() {
     ]);
 }
 
+/// (reading late-echo)
 #[test]
 fn a_late_echo_of_our_announcement_is_a_conflict() {
     let mut state = holding(0, SEVEN, 3, probing(0, 500));
@@ -189,6 +204,7 @@ fn a_late_echo_of_our_announcement_is_a_conflict() {
     assert_eq!(met(&mut state, 1, &echo), answer(Kind::Lost, Some(0), None));
 }
 
+/// (reading lowest-number)
 #[test]
 fn the_lowest_number_that_applies() {
     let mut state = interface(10);
@@ -206,6 +222,7 @@ fn the_lowest_number_that_applies() {
     refuses(&state, 6, |state, out| state.packet(Time(10), &[], out));
 }
 
+/// (reading hardware-48-bits)
 #[test]
 fn hardware_is_a_48_bit_number() {
     let wide = Hardware(1 << 48 | 2 << 40);
@@ -222,6 +239,7 @@ fn hardware_is_a_48_bit_number() {
     );
 }
 
+/// (reading free-is-a-stage)
 #[test]
 fn a_freed_record_is_zero() {
     let mut state = holding(0, SEVEN, 3, settled(None));
@@ -234,6 +252,7 @@ fn a_freed_record_is_zero() {
     assert_eq!(state.slots[0], Record::FREE);
 }
 
+/// (reading any-record)
 #[test]
 fn any_record_can_be_handed_in_and_refused() {
     for (policy, sent) in [(0, 0), (255, 0), (1, 255)] {
@@ -242,6 +261,7 @@ fn any_record_can_be_handed_in_and_refused() {
     }
 }
 
+/// (reading room-by-length)
 #[test]
 fn refusal_5_without_a_frame_to_write() {
     let state = interface(0);
@@ -254,6 +274,7 @@ fn refusal_5_without_a_frame_to_write() {
     });
 }
 
+/// (reading ten-conflicts-no-ask)
 #[test]
 fn count_10_with_no_request() {
     let mut state = interface(0);
@@ -263,6 +284,7 @@ fn count_10_with_no_request() {
     assert_eq!(got, Ok(answer(Kind::Taken, Some(0), Some(0))));
 }
 
+/// (reading clock-order)
 #[test]
 fn a_latest_time_above_the_range() {
     for reading in [0, 0x8000_0000, u32::MAX] {
@@ -272,6 +294,7 @@ fn a_latest_time_above_the_range() {
     }
 }
 
+/// (reading sound-exactly-if)
 #[test]
 fn sound_exactly_if() {
     // A passed deadline, a conflict before the request: nothing else is asked.
@@ -280,6 +303,7 @@ fn sound_exactly_if() {
     assert!(state.is_sound());
 }
 
+/// (reading both-losses-surrender)
 #[test]
 fn both_ways_of_losing_an_address_in_use() {
     let claim = frame(1, OTHER_TEXT, SEVEN, SEVEN);
@@ -290,6 +314,7 @@ fn both_ways_of_losing_an_address_in_use() {
     assert_eq!(first, second);
 }
 
+/// (reading refused-fresh)
 #[test]
 fn a_refused_fresh_changes_nothing() {
     check(&[
@@ -301,6 +326,7 @@ fn a_refused_fresh_changes_nothing() {
     ]);
 }
 
+/// (reading document-01-decides)
 #[test]
 fn document_01_decides_over_rfc_5227() {
     // Defended conflicts count too, over all records, and the interval runs

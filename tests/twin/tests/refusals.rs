@@ -196,6 +196,7 @@ fn no_4_before_5_8_and_13() {
     drop_is(&state, Time(0), 4, 4);
 }
 
+/// (reading room-by-length)
 #[test]
 fn no_5_tick_with_and_without_a_frame_due() {
     tick_is(&interface(0), Time(0), 27, 5);
@@ -203,6 +204,7 @@ fn no_5_tick_with_and_without_a_frame_due() {
     tick_is(&holding(0, SEVEN, 1, probing(0, 0)), Time(0), 27, 5);
 }
 
+/// (reading room-by-length)
 #[test]
 fn no_5_packet_with_and_without_a_conflict() {
     packet_is(&interface(0), Time(0), &good(), 27, 5);
@@ -218,6 +220,7 @@ fn no_5_write() {
     assert_eq!(out, [0xee; 27]);
 }
 
+/// (reading lowest-number)
 #[test]
 fn no_5_before_6_and_7() {
     packet_is(&interface(0), Time(0), &[], 27, 5);

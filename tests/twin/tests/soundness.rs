@@ -66,6 +66,7 @@ fn own_hardware_odd_first_byte() {
     breaks(|state| state.hardware = Hardware(0x0300_0000_000a));
 }
 
+/// (reading hardware-48-bits)
 #[test]
 fn own_hardware_of_49_bits() {
     breaks(|state| state.hardware = Hardware(1 << 48 | 0x0200_0000_000a));
@@ -154,6 +155,7 @@ fn an_address_held_twice() {
     }
 }
 
+/// (reading free-is-a-stage)
 #[test]
 fn a_free_slots_address_and_policy_mean_nothing() {
     for slot in 0..4 {

@@ -1,15 +1,22 @@
--- `engine_calls::perform`: the rows 1, 3 and 4, the decision, and what comes of it.
+-- `engine_calls::perform`: a new interface, or any other call.
 use borrow.Author.Needs.{needs}
-use Rattle.engine_calls.proofs.CallsLaws.{is-admitted, is-performed}
+use Rattle.engine_calls.proofs.CallsLaws.{fresh-performed, fresh-told, not-fresh}
 use Rattle.engine_calls.proofs.perform.Statement.{statement}
 use Rattle.engine_calls.proofs.perform.Tie as tie
 
-decide-requires : tie.Need-decide-requires
-decide-requires c κs = search is-admitted
+perform-on-requires : tie.Need-perform-on-requires
+perform-on-requires c κs = (search needs, search not-fresh)
 
 returns : tie.Need-returns
-returns c = search is-performed
+returns c = (search fresh-performed, search fresh-told)
 
 pub perform-spec : {M : Type 1} → statement M
 perform-spec =
-    tie.close (tie.spec (λ c κs. search needs) decide-requires (λ c κs. search needs) (λ c. search needs) returns)
+    tie.close
+    (tie.spec
+    (λ c. search needs)
+    (λ c κs. search needs)
+    perform-on-requires
+    returns
+    (λ c. search needs)
+    (λ c. search needs))

@@ -8,4 +8,4 @@ returns : tie.Need-returns
 returns c = search change-made
 
 pub changed-spec : {M : Type 1} → statement M
-changed-spec = tie.close (tie.spec (λ c κs. search needs) returns)
+changed-spec = tie.close (tie.spec (λ c κs. search needs) (λ c κs. search needs) returns)

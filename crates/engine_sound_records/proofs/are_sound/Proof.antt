@@ -5,12 +5,13 @@ use lib.ListN.{drop}
 use borrow.Author.Needs.{needs}
 use Rattle.basis_engine.specs.Slots.{all}
 use Rattle.basis_engine.specs.Interface.{isSoundRecord}
+use Rattle.basis_engine.specs.Timing.{rfc5227}
 use Rattle.engine_sound_records.proofs.Scans.{all-loop}
 use Rattle.engine_sound_records.proofs.are_sound.Statement.{statement}
 use Rattle.engine_sound_records.proofs.are_sound.Tie as tie
 
 abbrev Inv-loop : tie.InvT-loop
-Inv-loop latest records sound₀ i₀ sound i = (i ≤ 4) × (sound ≡ all (isSoundRecord latest) (drop i records))
+Inv-loop latest records sound₀ i₀ sound i = (i ≤ 4) × (sound ≡ all (isSoundRecord rfc5227 latest) (drop i records))
 
 abbrev μ-loop : tie.MeasureT-loop
 μ-loop latest records sound₀ i₀ sound i = i

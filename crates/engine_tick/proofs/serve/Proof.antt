@@ -1,4 +1,4 @@
--- `engine_tick::serve`: the kind, the stage and the frame are those of one service.
+-- `engine_tick::serve`: the frame that is due, and the stage after it.
 use borrow.Author.Needs.{needs}
 use Rattle.engine_tick.proofs.TickLaws.{slot-served}
 use Rattle.engine_tick.proofs.serve.Statement.{statement}
@@ -8,4 +8,4 @@ returns : tie.Need-returns
 returns c = search slot-served
 
 pub serve-spec : {M : Type 1} → statement M
-serve-spec = tie.close (tie.spec (λ c κs. search needs) (λ c κs. search needs) returns)
+serve-spec = tie.close (tie.spec (λ c κs. search needs) (λ c κs. search needs) (λ c κs. search needs) returns)

@@ -5,12 +5,13 @@ use lib.ListN.{length}
 use borrow.Author.Needs.{needs}
 use Rattle.frame_captures.proofs.decode.Statement.{statement}
 use Rattle.frame_captures.proofs.decode.Tie as tie
+use Rattle.basis.specs.Frame.{frameLength}
 
 abbrev Inv-loop : tie.InvT-loop
-Inv-loop line bytes₀ i₀ bytes i = length bytes ≡ 28
+Inv-loop line bytes₀ i₀ bytes i = length bytes ≡ frameLength
 
 abbrev μ-loop : tie.MeasureT-loop
-μ-loop line bytes₀ i₀ bytes i = 28 - i
+μ-loop line bytes₀ i₀ bytes i = frameLength - i
 
 loop-holds : tie.Need-loop-holds Inv-loop μ-loop
 loop-holds c = search needs

@@ -1,0 +1,2 @@
+-- What the functions do.
+pub mod StateLaws
