@@ -16,8 +16,7 @@ use Rattle.basis.specs.declared.Interface.{Interface}
 use Rattle.basis.proofs.AnswersLaws.{kind-at-most}
 use Rattle.basis.proofs.FrameLaws.{frame-length}
 use Rattle.basis_engine.specs.Interface.{isSound}
-use Rattle.basis_engine.specs.Calls.{Call}
-use Rattle.basis_engine.specs.Machine.{outcomeOf, resultOf}
+use Rattle.basis_engine.specs.Machine.{outcomeOf, resultOf, Invocation}
 use Rattle.basis_engine.proofs.AlwaysSound.{stays-sound}
 use Rattle.basis_lines.specs.Numbers.{areDigits, number, largest, hexBytes, bytes}
 use Rattle.basis_lines.specs.Answers.{refusedText, acceptedText, reportText, numberText, frameText, answerTo, lineAnswer, longestAnswer}
@@ -77,15 +76,15 @@ pub longest-answer : (s : Interface) (line : List ℕ) → length (lineAnswer s 
 unfolding lineAnswer
 longest-answer s line = go (callOf line)
   where
-    go : (call : Option Call) → length (answerTo s call .text) ≤ longestAnswer
+    go : (call : Option Invocation) → length (answerTo s call .text) ≤ longestAnswer
     go none = refused-at-most 14
-    go (some call) = report-at-most (resultOf s call .report) (outcomeOf s call .frame)
+    go (some i) = report-at-most (resultOf s (i .call) (i .bytes) (i .lent) .report) (outcomeOf s (i .call) (i .bytes) .frame)
 
 -- A line leaves a sound state sound.
 pub line-stays-sound : (s : Interface) (line : List ℕ) → isSound s ≡ true → isSound (lineAnswer s line .state) ≡ true
 unfolding lineAnswer
 line-stays-sound s line sound = go (callOf line)
   where
-    go : (call : Option Call) → isSound (answerTo s call .state) ≡ true
+    go : (call : Option Invocation) → isSound (answerTo s call .state) ≡ true
     go none = sound
-    go (some call) = stays-sound s call sound
+    go (some i) = stays-sound s (i .call) (i .bytes) (i .lent) sound

@@ -11,7 +11,7 @@ use borrow.Author.Tests.{lt-leb, leb-false, eqb-true, not-true}
 use Rattle.basis.specs.Bytes.{sameBytes}
 use Rattle.basis.specs.declared.Interface.{Interface}
 use Rattle.basis.proofs.BytesLaws.{same-equal}
-use Rattle.basis_engine.specs.Calls.{Call}
+use Rattle.basis_engine.specs.Machine.{Invocation}
 use Rattle.basis_engine.proofs.SlotLaws.{neither}
 use Rattle.basis_lines.specs.Fields.{tab, dot, parts, _then_}
 use Rattle.basis_lines.specs.Numbers.{isDigit, hexDigit, address, largest, largestDraw}
@@ -152,7 +152,7 @@ no-call-of {b = b} {fields = fields} {alphabets = alphabets} foreign (later has)
     (foreign-is-stray b foreign has alphabets (omega (arith, eqb-true (suc (length fields)) (suc (length alphabets)) count)))
 
 -- A form passed over: its word is not there, or not its count of fields, or it makes no call.
-pass : (same counted : Bool) (call rest : Option Call) → (same ≡ true → counted ≡ true → cond counted call none ≡ none) →
+pass : (same counted : Bool) (call rest : Option Invocation) → (same ≡ true → counted ≡ true → cond counted call none ≡ none) →
     rest ≡ none → cond (same && counted) call rest ≡ none
 pass true true call rest unread none-left = unread refl refl
 pass true false call rest unread none-left = none-left

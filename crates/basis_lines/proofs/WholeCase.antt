@@ -7,15 +7,16 @@ use mathlib.Core.List.{List, [], _∷_, map}
 use mathlib.Core.Option.{Option, none, some}
 use Rattle.basis.specs.Answers.{kindWord}
 use Rattle.basis.specs.Frame.{frameBytes, probe, announcement, framePut}
+use Rattle.basis.specs.declared.Call.the-variants as Call
 use Rattle.basis_engine.specs.Slots.{any, all, lowestFrom}
 use Rattle.basis_engine.specs.Interface.{isOwnHardware, isAllowed, isSoundStage, isSoundRecord, holdsNoneTwice, isSound}
 use Rattle.basis_engine.specs.Deadlines.{smallestDeadline, dueSlot}
-use Rattle.basis_engine.specs.Calls.{Call, fresh, ask, tick, packet, drop, service, freshOutcome, askOutcome, tickOutcome}
+use Rattle.basis_engine.specs.Calls.{dueFrame, stageAfter, freshOutcome, askOutcome, tickOutcome}
 use Rattle.basis_engine.specs.Refusals.{stateAndTime, freshRefusal, askRefusal, tickRefusal, dropRefusal}
-use Rattle.basis_engine.specs.Machine.{refusalOf, outcomeOf, resultOf}
+use Rattle.basis_engine.specs.Machine.{refusalOf, outcomeOf, resultOf, Invocation}
 use Rattle.basis_lines.specs.Fields.{parts}
 use Rattle.basis_lines.specs.Numbers.{areDigits, valueAfter, number, each, address, hexBytes, bytes, hardware, lastDigits, hexText}
-use Rattle.basis_lines.specs.Forms.{callIn, callOf, lentBuffer}
+use Rattle.basis_lines.specs.Forms.{callIn, callOf, made}
 use Rattle.basis_lines.specs.Answers.{refusedText, acceptedText, lineAnswer}
 use Rattle.basis_lines.specs.Records.{recordsAfter, answers, replay}
 
@@ -50,7 +51,7 @@ output =
 pub whole-case : (replay (codes (input "Â\u{a0}")) ≡ codes output) × (replay (codes (input " ")) ≡ codes output)
 unfolding
     kindWord frameBytes probe announcement framePut any all lowestFrom isOwnHardware isAllowed isSoundStage isSoundRecord
-    holdsNoneTwice isSound smallestDeadline dueSlot service freshOutcome askOutcome tickOutcome stateAndTime freshRefusal askRefusal
+    holdsNoneTwice isSound smallestDeadline dueSlot dueFrame stageAfter freshOutcome askOutcome tickOutcome stateAndTime freshRefusal askRefusal
     tickRefusal refusalOf outcomeOf resultOf parts areDigits valueAfter number each address hexBytes bytes hardware lastDigits hexText
     callIn callOf refusedText acceptedText lineAnswer recordsAfter answers replay codes input output
 whole-case = (refl, refl)
@@ -65,13 +66,13 @@ small-cases :
     "" ∷ "refused\t14\n" ∷ "refused\t1\n" ∷ "refused\t14\n" ∷ "ok\tfresh\t-\t-\t-\nrefused\t2\nok\tnone\t-\t-\t-\n" ∷ []
     )
 unfolding
-    kindWord any all isOwnHardware isAllowed isSoundStage isSoundRecord holdsNoneTwice isSound smallestDeadline dueSlot service
+    kindWord any all isOwnHardware isAllowed isSoundStage isSoundRecord holdsNoneTwice isSound smallestDeadline dueSlot dueFrame stageAfter
     freshOutcome tickOutcome stateAndTime freshRefusal tickRefusal dropRefusal refusalOf outcomeOf resultOf parts areDigits valueAfter
     number hexBytes hardware lastDigits callIn callOf refusedText acceptedText lineAnswer recordsAfter answers replay codes
 small-cases = refl
 
 -- The largest and the shortest fields that a line may have.
-callsOf : List String → List (Option Call)
+callsOf : List String → List (Option Invocation)
 callsOf lines = map (λ (line : String). callOf (codes line)) lines
 
 edges-read :
@@ -84,12 +85,12 @@ edges-read :
     ∷ "drop\t0\t18446744073709551615"
     ∷ []
     )
-    ≡ some (fresh (record { 0 = 2 ^ 48 - 1 }))
-    ∷ some (ask (record { 0 = 2 ^ 64 - 1 }) (record { 0 = 0xff000aff }) (2 ^ 64 - 1) (2 ^ 32 - 1))
-    ∷ some (tick (record { 0 = 2 ^ 64 - 1 }) (2 ^ 32 - 1) lentBuffer)
-    ∷ some (packet (record { 0 = 0 }) [] lentBuffer)
-    ∷ some (packet (record { 0 = 0 }) (0x09 ∷ 0xaf ∷ []) lentBuffer)
-    ∷ some (drop (record { 0 = 0 }) (2 ^ 64 - 1))
+    ≡ some (made (Call.Fresh (record { hardware = record { 0 = 2 ^ 48 - 1 } })) [])
+    ∷ some (made (Call.Ask (record { 0 = 2 ^ 64 - 1 }) (record { 0 = 0xff000aff }) (2 ^ 64 - 1) (2 ^ 32 - 1)) [])
+    ∷ some (made (Call.Tick (record { 0 = 2 ^ 64 - 1 }) (2 ^ 32 - 1)) [])
+    ∷ some (made (Call.Packet (record { 0 = 0 })) [])
+    ∷ some (made (Call.Packet (record { 0 = 0 })) (0x09 ∷ 0xaf ∷ []))
+    ∷ some (made (Call.Drop (record { 0 = 0 }) (2 ^ 64 - 1)) [])
     ∷ []
 unfolding callsOf codes callOf callIn parts areDigits valueAfter number each address hexBytes bytes hardware
 edges-read = refl

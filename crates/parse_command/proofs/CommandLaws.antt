@@ -3,7 +3,7 @@ use Prim.Native.Nat.{ℕ, suc, _<_, _≤_}
 use mathlib.Core.Path.{_≡_, refl, ap, sym, subst, _∙_}
 use mathlib.Core.Bool.{Bool, true, false, cond, and-false, true≢false}
 use mathlib.Core.List.{List, [], _∷_, _++_, append-assoc}
-use mathlib.Core.Option.{Option, none, some}
+use mathlib.Core.Option.{Option, none, some, Option·map}
 use mathlib.Core.Logic.{⊎-elim}
 use native.Mathlib.Nat.{eq-or-lt-of-le}
 use native.Mathlib.Numerals.{add-one}
@@ -13,100 +13,87 @@ use borrow.Author.Tests.{le-leb, lt-leb}
 use Rattle.basis.specs.Bytes.{sameBytes}
 use Rattle.basis.proofs.BytesLaws.{same-equal}
 use Rattle.basis.specs.declared.Time.{Time}
-use Rattle.basis.specs.declared.Ipv4Address.{Ipv4Address}
-use Rattle.basis_engine.specs.Calls.{Call}
-use Rattle.basis_lines.specs.Fields.{tab, parts, firstPart}
-use Rattle.basis_lines.specs.Numbers.{number, largest, largestDraw, address}
-use Rattle.basis_lines.specs.Forms.{longestLine, callOf, callIn, field, freshWord, askWord, tickWord, packetWord, dropWord}
+use Rattle.basis_engine.specs.Machine.{Invocation}
+use Rattle.basis_lines.specs.Fields.{tab, parts, firstPart, _then_}
+use Rattle.basis_lines.specs.Numbers.{number, largest}
+use Rattle.basis_lines.specs.Forms.{longestLine, callOf, callIn, freshWord, askWord, tickWord, packetWord, dropWord, freshCall}
 use Rattle.basis_lines.proofs.FieldLaws.{first-length, one-part, more-parts, separated}
 use Rattle.parse_fields.specs.Places.{begun}
 use Rattle.parse_fields.proofs.FieldsLaws.{begun-is, is-begun}
 use Rattle.parse_numbers.specs.Numerals.{readingOf}
 use Rattle.parse_numbers.specs.declared.Reading.{Reading}
 use Rattle.parse_numbers.specs.declared.Reading.the-variants as Reading
-use Rattle.parse_addresses.specs.Dotted.{addressOf}
-use Rattle.parse_addresses.specs.declared.AddressReading.{AddressReading}
-use Rattle.parse_addresses.specs.declared.AddressReading.the-variants as AddressReading
 use Rattle.parse_forms.specs.declared.Command.{Command}
 use Rattle.parse_forms.specs.declared.Command.the-variants as Command
-use Rattle.parse_forms.specs.Commands.{Makes, Always, freshCall, askCall, tickCall, packetCall, dropCall, ifCount}
-use Rattle.parse_forms.proofs.Counts.{last-field, ReadFirst, alone, unread, goes-on}
-use Rattle.parse_forms.proofs.FormsLaws.{tab-in-number, read-none, read-some, same-call, none-made, Timed}
-use Rattle.parse_command.specs.AskFields.{addressAt, policyAt, drawAt}
+use Rattle.parse_forms.specs.declared.Parsed.{Parsed}
+use Rattle.parse_forms.specs.Commands.{asked, headed, Makes, ifCount}
+use Rattle.parse_forms.proofs.Counts.{ReadNext}
+use Rattle.parse_forms.proofs.FormsLaws.{no-number, no-tab-behind, number-then}
+use Rattle.parse_command.specs.declared.Word.{Word}
+use Rattle.parse_command.specs.declared.Word.the-variants as Word
+use Rattle.parse_command.specs.Words.{formOf, timedCall}
 
--- `ask` time address policy draw: the time first.
-pub ask-timed : Timed askWord askCall addressAt
-ask-timed = record { first = record { reads = λ x ys. refl } }
+-- A command without bytes.
+whole-command : (command : Command) → asked command [] ≡ Option·map headed (asked command [])
+whole-command Command.Malformed = refl
+whole-command (Command.Call call) = refl
 
--- Then the address.
-address-first : (t : Time) → ReadFirst (addressAt t) address (policyAt t)
-address-first t = record { reads = λ x ys. refl }
+module _ (r : Parsed) (command : Command) (same : (r .command ≡ command) × (r .count ≡ 0)) (head : List ℕ) (call : Option Invocation) where
+  pub plain-makes : asked command [] ≡ call → Makes r head call
+  plain-makes e = record { makes = rw (same .0, same .1) (whole-command command ∙ ap (Option·map headed) e) }
 
-module _ (t : Time) (rest second : List ℕ) (cut : second ≡ firstPart tab rest) where
-  pub ask-address-alone : length rest ≤ length second → Always Command.Malformed (ifCount 3 (addressAt t) (parts tab rest))
-  ask-address-alone all = none-made _ (alone (address-first t) 1 rest (omega (arith, all, ap length cut)))
+-- The fields behind the time.
+module _ (same word : Word) (is : word ≡ same) (t : Time) (rest head : List ℕ) (r : Parsed) where
+  pub by-word : Makes r head (ifCount (formOf same .count) (formOf same .call t) ([] ∷ [] ∷ parts tab rest))
+      → Makes r head (ifCount (formOf word .count) (formOf word .call t) ([] ∷ [] ∷ parts tab rest))
+  by-word = subst (λ w. Makes r head (ifCount (formOf w .count) (formOf w .call t) ([] ∷ [] ∷ parts tab rest))) (sym is)
 
-  module _ (r : AddressReading) (told : addressOf r ≡ address second) where
-    pub ask-no-address : r ≡ AddressReading.Malformed → Always Command.Malformed (ifCount 3 (addressAt t) (parts tab rest))
-    ask-no-address is = none-made _ (unread (address-first t) 1 rest (ap address (sym cut) ∙ sym told ∙ ap addressOf is))
+  pub plain-by-word : (command : Command) → (r .command ≡ command) × (r .count ≡ 0)
+      → asked command [] ≡ ifCount (formOf same .count) (formOf same .call t) ([] ∷ [] ∷ parts tab rest)
+      → Makes r head (ifCount (formOf word .count) (formOf word .call t) ([] ∷ [] ∷ parts tab rest))
+  plain-by-word command same-command e = by-word (plain-makes r command same-command head _ e)
 
-    pub ask-addressed : (wanted : Ipv4Address) → r ≡ AddressReading.Address wanted → length second < length rest
-        → (last : List ℕ) → last ≡ drop (suc (length second)) rest → (command : Command)
-        → Always command (ifCount 2 (policyAt t wanted) (parts tab last)) → Always command (ifCount 3 (addressAt t) (parts tab rest))
-    ask-addressed wanted is more last behind command =
-        same-call command _ _
-        (goes-on (address-first t) 1 rest wanted (length second) last (ap address (sym cut) ∙ sym told ∙ ap addressOf is) (ap length cut)
-        more behind)
+-- The time.
+time-then : {A : Type 0} (o : Option ℕ) (next : Time → Option A)
+    → ((o then λ ms. some (record { 0 = ms })) then next) ≡ (o then λ ms. next (record { 0 = ms }))
+time-then none next = refl
+time-then (some ms) next = refl
 
--- Then the policy, and the draw, which is all that is left of the line.
-policy-first : (t : Time) (wanted : Ipv4Address)
-    → ReadFirst (policyAt t wanted) (number largest) (λ policy fields. drawAt t wanted policy (field 0 fields))
-policy-first t wanted = record { reads = λ x ys. refl }
+pub time-next : (word : Word)
+    → ReadNext (formOf word .count) ([] ∷ []) (timedCall (formOf word)) (number largest) (λ ms. formOf word .call (record { 0 = ms }))
+time-next Word.Tick = record { not-last = omega arith; reads = λ x ys. time-then (number largest x) _ }
+time-next Word.Packet = record { not-last = omega arith; reads = λ x ys. time-then (number largest x) _ }
+time-next Word.Ask = record { not-last = omega arith; reads = λ x ys. time-then (number largest x) _ }
+time-next Word.Drop = record { not-last = omega arith; reads = λ x ys. time-then (number largest x) _ }
 
-module _ (t : Time) (wanted : Ipv4Address) where
-  module _ (rest : List ℕ) (r : Reading) (told : readingOf r ≡ number largest (firstPart tab rest)) where
-    pub ask-no-policy : r ≡ Reading.Malformed → Always Command.Malformed (ifCount 2 (policyAt t wanted) (parts tab rest))
-    ask-no-policy is = none-made _ (unread (policy-first t wanted) 0 rest (read-none r told is))
+module _ (word : Word) (rest head : List ℕ) (r : Reading) (told : readingOf r ≡ number largest (firstPart tab rest)) where
+  abbrev behindWord : Option Invocation
+  behindWord = ifCount (formOf word .count) (timedCall (formOf word)) ([] ∷ parts tab rest)
 
-    module _ (policy end : ℕ) (is : r ≡ Reading.Number policy) (ends : (m : ℕ) → readingOf r ≡ some m → end ≡ length (firstPart tab rest)) where
-      pub ask-policy-alone : length rest ≤ end → Always Command.Malformed (ifCount 2 (policyAt t wanted) (parts tab rest))
-      ask-policy-alone all = none-made _ (alone (policy-first t wanted) 0 rest (omega (arith, ends policy (ap readingOf is))))
+  pub no-time : (p : Parsed) → (p .command ≡ Command.Malformed) × (p .count ≡ 0) → r ≡ Reading.Malformed → Makes p head behindWord
+  no-time p same is = plain-makes p Command.Malformed same head behindWord (no-number (time-next word) rest r told is)
 
-      pub ask-with-policy : end < length rest → (last : List ℕ) → last ≡ drop (suc end) rest → (command : Command)
-          → Always command (drawAt t wanted policy last) → Always command (ifCount 2 (policyAt t wanted) (parts tab rest))
-      ask-with-policy more last behind command =
-          same-call command _ _
-          (last-field 1 (λ fields. drawAt t wanted policy (field 0 fields)) [] last refl (λ m. rw (tab-in-number last m largestDraw))
-          ∙ goes-on (policy-first t wanted) 0 rest policy end last (read-some r policy told is) (ends policy (ap readingOf is)) more behind)
+  module _ (ms end : ℕ) (is : r ≡ Reading.Number ms) (ends : (m : ℕ) → readingOf r ≡ some m → end ≡ length (firstPart tab rest)) where
+    pub time-alone : (p : Parsed) → (p .command ≡ Command.Malformed) × (p .count ≡ 0) → length rest ≤ end → Makes p head behindWord
+    time-alone p same all =
+        plain-makes p Command.Malformed same head behindWord (no-tab-behind (time-next word) rest r told ms end is ends all)
 
-  module _ (policy : ℕ) (last : List ℕ) where
-    pub ask-no-draw : number largestDraw last ≡ none → Always Command.Malformed (drawAt t wanted policy last)
-    ask-no-draw d = none-made _ (rw d)
-
-    pub ask-made : (draw narrow : ℕ) → number largestDraw last ≡ some draw → narrow ≡ draw
-        → Always (Command.Ask t wanted policy narrow) (drawAt t wanted policy last)
-    ask-made draw narrow d e = record { always = λ head. record { makes = rw (d, e) } }
+    pub timed : end < length rest → (last : List ℕ) → last ≡ drop (suc end) rest → (p : Parsed)
+        → Makes p head (ifCount (formOf word .count) (formOf word .call (record { 0 = ms })) ([] ∷ [] ∷ parts tab last)) → Makes p head behindWord
+    timed more last behind p = subst (Makes p head) (number-then (time-next word) rest r told ms end is ends more last behind)
 
 -- A line that is a form's word, a tab and more makes that form's call.
-fresh-form : (rest : List ℕ) → callIn (parts tab (freshWord ++ (tab ∷ rest))) ≡ ifCount 2 freshCall (freshWord ∷ parts tab rest)
+timed-form : (word : Word) (rest : List ℕ)
+    → callIn (parts tab (formOf word .word ++ (tab ∷ rest))) ≡ ifCount (formOf word .count) (timedCall (formOf word)) ([] ∷ parts tab rest)
+unfolding callIn parts
+timed-form Word.Tick rest = refl
+timed-form Word.Packet rest = refl
+timed-form Word.Ask rest = refl
+timed-form Word.Drop rest = refl
+
+fresh-form : (rest : List ℕ) → callIn (parts tab (freshWord ++ (tab ∷ rest))) ≡ ifCount 2 freshCall ([] ∷ parts tab rest)
 unfolding callIn parts
 fresh-form rest = refl
-
-ask-form : (rest : List ℕ) → callIn (parts tab (askWord ++ (tab ∷ rest))) ≡ ifCount 5 askCall (askWord ∷ parts tab rest)
-unfolding callIn parts
-ask-form rest = refl
-
-tick-form : (rest : List ℕ) → callIn (parts tab (tickWord ++ (tab ∷ rest))) ≡ ifCount 3 tickCall (tickWord ∷ parts tab rest)
-unfolding callIn parts
-tick-form rest = refl
-
-packet-form : (rest : List ℕ) → callIn (parts tab (packetWord ++ (tab ∷ rest))) ≡ ifCount 3 packetCall (packetWord ∷ parts tab rest)
-unfolding callIn parts
-packet-form rest = refl
-
-drop-form : (rest : List ℕ) → callIn (parts tab (dropWord ++ (tab ∷ rest))) ≡ ifCount 3 dropCall (dropWord ∷ parts tab rest)
-unfolding callIn parts
-drop-form rest = refl
 
 -- Any other word makes none.
 no-form : (word : List ℕ) (fields : List (List ℕ))
@@ -162,67 +149,60 @@ module _ (word line : List ℕ) where
       cases false t = t
 
 -- A whole line.
-module _ (line head : List ℕ) where
-  pub too-long : longestLine < length line → Makes Command.Malformed head (callOf line)
+short-line : (line : List ℕ) → length line ≤ longestLine → callOf line ≡ callIn (parts tab line)
+unfolding callOf
+short-line line short = ap (λ t. cond t (callIn (parts tab line)) none) (le-leb (length line) longestLine short)
+
+module _ (word : List ℕ) (line rest : List ℕ) (short : length line ≤ longestLine) (b : Bool) (told : b ≡ begun (withTab word) line) (is : b ≡ true)
+    (behind : rest ≡ drop (suc (length word)) line) where
+  begun-line : (call : List ℕ → Option Invocation) → ((l : List ℕ) → callIn (parts tab (word ++ (tab ∷ l))) ≡ call l) → call rest ≡ callOf line
+  begun-line call form =
+      sym
+      (short-line line short
+      ∙ ap (λ l. callIn (parts tab l)) (begun-parts word line (sym told ∙ is))
+      ∙ form (drop (suc (length word)) line)
+      ∙ ap call (sym behind))
+
+pub timed-line : (word : Word) (line rest : List ℕ) → length line ≤ longestLine → (b : Bool) → b ≡ begun (withTab (formOf word .word)) line → b ≡ true
+    → rest ≡ drop (suc (length (formOf word .word))) line → (head : List ℕ) (p : Parsed)
+    → Makes p head (ifCount (formOf word .count) (timedCall (formOf word)) ([] ∷ parts tab rest)) → Makes p head (callOf line)
+timed-line word line rest short b told is behind head p =
+    subst (Makes p head)
+    (begun-line (formOf word .word) line rest short b told is behind
+    (λ l. ifCount (formOf word .count) (timedCall (formOf word)) ([] ∷ parts tab l)) (timed-form word))
+
+pub fresh-line : (line rest : List ℕ) → length line ≤ longestLine → (b : Bool) → b ≡ begun (withTab freshWord) line → b ≡ true
+    → rest ≡ drop (suc (length freshWord)) line → (head : List ℕ) (p : Parsed) (command : Command)
+    → (p .command ≡ command) × (p .count ≡ 0) → asked command [] ≡ ifCount 2 freshCall ([] ∷ parts tab rest) → Makes p head (callOf line)
+fresh-line line rest short b told is behind head p command same e =
+    plain-makes p command same head (callOf line)
+    (e ∙ begun-line freshWord line rest short b told is behind (λ l. ifCount 2 freshCall ([] ∷ parts tab l)) fresh-form)
+
+module _ (line head : List ℕ) (p : Parsed) (same : (p .command ≡ Command.Malformed) × (p .count ≡ 0)) where
+  pub too-long : longestLine < length line → Makes p head (callOf line)
   unfolding callOf
-  too-long h = record { makes = rw (lt-leb (length line) longestLine h) }
+  too-long h = plain-makes p Command.Malformed same head (callOf line) (rw (lt-leb (length line) longestLine h))
 
-  module _ (short : length line ≤ longestLine) where
-    short-line : callOf line ≡ callIn (parts tab line)
-    unfolding callOf
-    short-line = ap (λ t. cond t (callIn (parts tab line)) none) (le-leb (length line) longestLine short)
+  pub no-line : length line ≤ longestLine → (a b c d e : Bool)
+      → a ≡ begun (withTab tickWord) line → a ≡ false
+      → b ≡ begun (withTab packetWord) line → b ≡ false
+      → c ≡ begun (withTab askWord) line → c ≡ false
+      → d ≡ begun (withTab dropWord) line → d ≡ false
+      → e ≡ begun (withTab freshWord) line → e ≡ false
+      → Makes p head (callOf line)
+  no-line short a b c d e a₁ a₂ b₁ b₂ c₁ c₂ d₁ d₂ e₁ e₂ =
+      plain-makes p Command.Malformed same head (callOf line)
+      (sym (short-line line short ∙ ⊎-elim alone more (eq-or-lt-of-le (first-length tab line))))
+    where
+      alone : length (firstPart tab line) ≡ length line → callIn (parts tab line) ≡ none
+      alone h = ap callIn (one-part tab line h) ∙ no-fields line
 
-    module _ (command : Command) (rest : List ℕ) (r : Bool) where
-      by-word : (word : List ℕ) (call : List ℕ → Option Call) → ((l : List ℕ) → callIn (parts tab (word ++ (tab ∷ l))) ≡ call l)
-          → r ≡ begun (withTab word) line → r ≡ true → rest ≡ drop (suc (length word)) line
-          → Makes command head (call rest) → Makes command head (callOf line)
-      by-word word call form e t behind =
-          subst (Makes command head)
-          (sym
-          (short-line
-          ∙ ap (λ l. callIn (parts tab l)) (begun-parts word line (sym e ∙ t))
-          ∙ form (drop (suc (length word)) line)
-          ∙ ap call (sym behind)))
-
-      pub tick-line : r ≡ begun (withTab tickWord) line → r ≡ true → rest ≡ drop (suc (length tickWord)) line
-          → Always command (ifCount 3 tickCall (tickWord ∷ parts tab rest)) → Makes command head (callOf line)
-      tick-line e t behind h = by-word tickWord _ tick-form e t behind (h .always head)
-
-      pub packet-line : r ≡ begun (withTab packetWord) line → r ≡ true → rest ≡ drop (suc (length packetWord)) line
-          → Makes command head (ifCount 3 packetCall (packetWord ∷ parts tab rest)) → Makes command head (callOf line)
-      packet-line e t behind h = by-word packetWord _ packet-form e t behind h
-
-      pub ask-line : r ≡ begun (withTab askWord) line → r ≡ true → rest ≡ drop (suc (length askWord)) line
-          → Always command (ifCount 5 askCall (askWord ∷ parts tab rest)) → Makes command head (callOf line)
-      ask-line e t behind h = by-word askWord _ ask-form e t behind (h .always head)
-
-      pub drop-line : r ≡ begun (withTab dropWord) line → r ≡ true → rest ≡ drop (suc (length dropWord)) line
-          → Always command (ifCount 3 dropCall (dropWord ∷ parts tab rest)) → Makes command head (callOf line)
-      drop-line e t behind h = by-word dropWord _ drop-form e t behind (h .always head)
-
-      pub fresh-line : r ≡ begun (withTab freshWord) line → r ≡ true → rest ≡ drop (suc (length freshWord)) line
-          → Always command (ifCount 2 freshCall (freshWord ∷ parts tab rest)) → Makes command head (callOf line)
-      fresh-line e t behind h = by-word freshWord _ fresh-form e t behind (h .always head)
-
-    pub no-line : (a b c d e : Bool)
-        → a ≡ begun (withTab tickWord) line → a ≡ false
-        → b ≡ begun (withTab packetWord) line → b ≡ false
-        → c ≡ begun (withTab askWord) line → c ≡ false
-        → d ≡ begun (withTab dropWord) line → d ≡ false
-        → e ≡ begun (withTab freshWord) line → e ≡ false
-        → Makes Command.Malformed head (callOf line)
-    no-line a b c d e a₁ a₂ b₁ b₂ c₁ c₂ d₁ d₂ e₁ e₂ =
-        none-made (callOf line) (short-line ∙ ⊎-elim alone more (eq-or-lt-of-le (first-length tab line))) .always head
-      where
-        alone : length (firstPart tab line) ≡ length line → callIn (parts tab line) ≡ none
-        alone h = ap callIn (one-part tab line h) ∙ no-fields line
-
-        more : length (firstPart tab line) < length line → callIn (parts tab line) ≡ none
-        more h =
-            ap callIn (more-parts tab line h)
-            ∙ no-form (firstPart tab line) _
-            (other-word tickWord line h (sym a₁ ∙ a₂))
-            (other-word packetWord line h (sym b₁ ∙ b₂))
-            (other-word askWord line h (sym c₁ ∙ c₂))
-            (other-word dropWord line h (sym d₁ ∙ d₂))
-            (other-word freshWord line h (sym e₁ ∙ e₂))
+      more : length (firstPart tab line) < length line → callIn (parts tab line) ≡ none
+      more h =
+          ap callIn (more-parts tab line h)
+          ∙ no-form (firstPart tab line) _
+          (other-word tickWord line h (sym a₁ ∙ a₂))
+          (other-word packetWord line h (sym b₁ ∙ b₂))
+          (other-word askWord line h (sym c₁ ∙ c₂))
+          (other-word dropWord line h (sym d₁ ∙ d₂))
+          (other-word freshWord line h (sym e₁ ∙ e₂))

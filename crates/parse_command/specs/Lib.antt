@@ -1,2 +1,2 @@
 -- What the contracts of inner functions cite.
-pub mod AskFields
+pub mod Words

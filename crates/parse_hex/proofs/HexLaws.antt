@@ -12,6 +12,7 @@ use lib.Seq.{take-suc, take-suc-set, take-take, take-all, getD-take, getD-drop}
 use lib.Arith.{digits-lt}
 use borrow.Author.Tests.{le-leb, lt-leb, eq-eqb, ne-eqb}
 use Rattle.basis.specs.Bytes.{numberOf}
+use Rattle.basis.specs.Frame.{frameLength}
 use Rattle.basis_lines.specs.Numbers.{hexBytes, bytes, hardware}
 use Rattle.parse_hex_digits.specs.HexText.{areHex}
 use Rattle.parse_hex.specs.HexValues.{pairs}
@@ -25,16 +26,16 @@ kept list source i b inv is h k = rw (add-one, take-suc-set list i b h, take-suc
 kept-same : (list source : List ℕ) (m n : ℕ) → take m list ≡ take m source → m ≡ n → take n list ≡ take n source
 kept-same list source m n inv is = subst (λ k. take k list ≡ take k source) is inv
 
-module _ (text head : List ℕ) (i : ℕ) (inv : take i head ≡ take i (pairs text)) (short : length text < 56) where
-  pub short-again : (b : ℕ) → b ≡ getD (pairs text) i 0 → length head ≡ 28 → i < length text / 2 →
+module _ (text head : List ℕ) (i : ℕ) (inv : take i head ≡ take i (pairs text)) (short : length text < 2 * frameLength) where
+  pub short-again : (b : ℕ) → b ≡ getD (pairs text) i 0 → length head ≡ frameLength → i < length text / 2 →
       take (i + 1) (set head i b) ≡ take (i + 1) (pairs text)
   short-again b is h k = kept head (pairs text) i b inv is (omega arith) (omega (arith, length-pairs text))
 
-  pub short-done : length text / 2 ≤ i → take i head ≡ take 28 (pairs text)
+  pub short-done : length text / 2 ≤ i → take i head ≡ take frameLength (pairs text)
   short-done h =
       inv
       ∙ take-all i (pairs text) (omega (arith, length-pairs text))
-      ∙ sym (take-all 28 (pairs text) (omega (arith, length-pairs text)))
+      ∙ sym (take-all frameLength (pairs text) (omega (arith, length-pairs text)))
 
 module _ (text : List ℕ) (start i : ℕ) (long : (start + 16) * 2 ≤ length text) where
   pub sixteen-again : (list : List ℕ) → take i list ≡ take i (drop start (pairs text)) →
@@ -45,7 +46,7 @@ module _ (text : List ℕ) (start i : ℕ) (long : (start + 16) * 2 ≤ length t
       (omega (arith, length-drop start (pairs text), length-pairs text))
 
   pub head-again : (head : List ℕ) → take (start + i) head ≡ take (start + i) (pairs text) → (list : List ℕ) →
-      list ≡ take 16 (drop start (pairs text)) → length head ≡ 28 → start ≤ 12 → i < 16 →
+      list ≡ take 16 (drop start (pairs text)) → length head ≡ frameLength → start ≤ 12 → i < 16 →
       take (start + (i + 1)) (set head (start + i) (getD list i 0)) ≡ take (start + (i + 1)) (pairs text)
   head-again head inv list are k first h =
       kept-same (set head (start + i) (getD list i 0)) (pairs text) (start + i + 1) (start + (i + 1))
@@ -101,7 +102,7 @@ module _ (text : List ℕ) (e : hexBytes text ≡ none) where
   unfolding hardware
   no-hardware = rw (e, either)
 
-  no-bytes : none ≡ Option·map (take 28) (bytes text)
+  no-bytes : none ≡ Option·map (take frameLength) (bytes text)
   unfolding bytes
   no-bytes = rw (e, either)
 
@@ -120,11 +121,11 @@ module _ (text : List ℕ) (all : Bool) (told : all ≡ areHex text) where
   unfolding hardware
   hardware-read h e n is = rw (eq-eqb (length text) 12 h, whole (omega arith) e, is)
 
-  pub bytes-foreign : all ≡ false → none ≡ Option·map (take 28) (bytes text)
+  pub bytes-foreign : all ≡ false → none ≡ Option·map (take frameLength) (bytes text)
   bytes-foreign e = no-bytes text (foreign e)
 
   pub bytes-read : length text ≤ 3_000 → length text % 2 ≡ 0 → all ≡ true →
-      (head : List ℕ) → head ≡ take 28 (pairs text) → some head ≡ Option·map (take 28) (bytes text)
+      (head : List ℕ) → head ≡ take frameLength (pairs text) → some head ≡ Option·map (take frameLength) (bytes text)
   unfolding bytes
   bytes-read h even e head is = rw (le-leb (length text) 3_000 h, whole even e, is)
 
@@ -133,9 +134,9 @@ module _ (text : List ℕ) where
   unfolding hardware
   hardware-length h = rw (ne-eqb (length text) 12 h)
 
-  pub bytes-long : 3_000 < length text → none ≡ Option·map (take 28) (bytes text)
+  pub bytes-long : 3_000 < length text → none ≡ Option·map (take frameLength) (bytes text)
   unfolding bytes
   bytes-long h = rw (lt-leb (length text) 3_000 h)
 
-  pub bytes-odd : length text % 2 ≡ 1 → none ≡ Option·map (take 28) (bytes text)
+  pub bytes-odd : length text % 2 ≡ 1 → none ≡ Option·map (take frameLength) (bytes text)
   bytes-odd h = no-bytes text (scanned text ∙ rw (h, and-false))

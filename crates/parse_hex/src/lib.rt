@@ -1,13 +1,21 @@
 // Hardware addresses and packet bytes, read from lower-case hex. The crate hex_digits checks a text whole before any of it is read.
 // Loops that do not end early and have a constant count compile to vector code.
+use basis::FRAME_LENGTH;
 use basis::HardwareAddress;
 ghost use Prim.Native.Nat.{_+_, _*_, _≤_, _<_};
 ghost use mathlib.Core.Path.{_≡_};
 ghost use mathlib.Core.Option.{Option·map};
 ghost use lib.ListN.{length, getD, take, drop};
 ghost use Rattle.basis.specs.Bytes.{numberOf};
+ghost use Rattle.basis.specs.Frame.{frameLength};
 ghost use Rattle.basis_lines.specs.Numbers as Numbers;
 ghost use Rattle.parse_hex.specs.HexValues.{letterMore, valueOf, pairs, hardwareOf, headOf};
+
+// The most digits of a packet's bytes.
+const MOST_DIGITS: usize = 3_000;
+
+// The digits of a frame.
+const FRAME_DIGITS: usize = 2 * FRAME_LENGTH;
 
 // What a text is as a hardware address.
 pub enum HardwareReading {
@@ -59,10 +67,10 @@ fn number(text: &[u8]) -> u64
     n
 }
 
-// Writes the bytes of a text of fewer than 56 digits to the head, and says how many there are.
+// Writes the bytes of a text that is shorter than a frame's to the head, and says how many there are.
 fn read_short(text: &[u8], head: &mut [u8]) -> usize
-    requires { ⌜ (length (now text) < 56) × (length (now head) ≡ 28) ⌝ }
-    ensures { λ r. ⌜ take r (now (head .exit)) ≡ take 28 (pairs (now (text .entry))) ⌝ }
+    requires { ⌜ (length (now text) < 2 * frameLength) × (length (now head) ≡ frameLength) ⌝ }
+    ensures { λ r. ⌜ take r (now (head .exit)) ≡ take frameLength (pairs (now (text .entry))) ⌝ }
 {
     let end = text.len() / 2;
     let mut i: usize = 0;
@@ -90,7 +98,7 @@ fn sixteen(text: &[u8], start: usize) -> [u8; 16]
 // Writes 16 bytes of a text to the head, behind those that are there.
 fn read_sixteen(text: &[u8], head: &mut [u8], start: usize)
     requires { ⌜ (start + 16) * 2 ≤ length (now text) ⌝ }
-    requires { ⌜ (length (now head) ≡ 28) × (start ≤ 12) ⌝ }
+    requires { ⌜ (length (now head) ≡ frameLength) × (start ≤ 12) ⌝ }
     requires { ⌜ take start (now head) ≡ take start (pairs (now text)) ⌝ }
     ensures { λ r. ⌜ take (start + 16) (now (head .exit)) ≡ take (start + 16) (pairs (now (text .entry))) ⌝ }
 {
@@ -105,15 +113,15 @@ fn read_sixteen(text: &[u8], head: &mut [u8], start: usize)
 // Writes the first 28 bytes of a text to the head, and says how many there are. 28 bytes are 16, and 16 more of which the first four
 // are there already.
 fn read_head(text: &[u8], head: &mut [u8]) -> usize
-    requires { ⌜ length (now head) ≡ 28 ⌝ }
-    ensures { λ r. ⌜ take r (now (head .exit)) ≡ take 28 (pairs (now (text .entry))) ⌝ }
+    requires { ⌜ length (now head) ≡ frameLength ⌝ }
+    ensures { λ r. ⌜ take r (now (head .exit)) ≡ take frameLength (pairs (now (text .entry))) ⌝ }
 {
-    if text.len() < 56 {
+    if text.len() < FRAME_DIGITS {
         read_short(text, head)
     } else {
         read_sixteen(text, head, 0);
         read_sixteen(text, head, 12);
-        28
+        FRAME_LENGTH
     }
 }
 
@@ -132,11 +140,11 @@ pub fn hardware(text: &[u8]) -> HardwareReading
 
 // Reads bytes: "an even count of digits from 0 to 3,000". All digits are checked; the first 28 bytes are kept, so that no large
 // buffer is needed.
-pub fn bytes(text: &[u8], head: &mut [u8; 28]) -> BytesReading
-    ensures { λ r. ⌜ headOf r (now (head .exit)) ≡ Option·map (take 28) (Numbers.bytes (now (text .entry))) ⌝ }
+pub fn bytes(text: &[u8], head: &mut [u8; FRAME_LENGTH]) -> BytesReading
+    ensures { λ r. ⌜ headOf r (now (head .exit)) ≡ Option·map (take frameLength) (Numbers.bytes (now (text .entry))) ⌝ }
 {
     let digits = text.len();
-    if 3_000 < digits {
+    if MOST_DIGITS < digits {
         BytesReading::Malformed
     } else if digits % 2 == 1 {
         BytesReading::Malformed

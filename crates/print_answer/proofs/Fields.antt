@@ -7,12 +7,12 @@ use mathlib.Core.Option.{Option, none, some}
 use native.Mathlib.Omega.{arith}
 use lib.ListN.{length}
 use lib.Dec.{lit≤}
-use Rattle.basis.specs.declared.Kind.{Kind}
+use Rattle.basis.specs.Frame.{frameLength}
 use Rattle.basis_lines.specs.Fields.{tab, newline}
 use Rattle.basis_lines.specs.Numbers.{decimal, hexText}
 use Rattle.basis_lines.specs.Answers.{refusedWord, dash, numberText, refusedText}
 use Rattle.print_digits.specs.Put.{Put}
-use Rattle.print_answer.specs.AcceptedText.{sends, shown}
+use Rattle.print_answer.specs.AcceptedText.{shown}
 use Rattle.basis_lines.proofs.HexLaws.{hex-length}
 use Rattle.print_kind.proofs.KindLaws.{put-as}
 use Rattle.print_answer.proofs.Puts.{put-append}
@@ -22,14 +22,12 @@ module _ {m at next : ℕ} {old new : List ℕ} where
       Put (tab ∷ numberText number) 21 at old new next
   none-put e p = rw e (put-as refl (lit≤ tt) p)
 
-  -- `sent` is what the test of the kind answered.
-  module _ (kind : Kind) (frame : List ℕ) {sent : Bool} (told : sent ≡ sends kind) where
-    pub shown-put : sent ≡ true → length frame ≡ 28 → Put (tab ∷ hexText frame) m at old new next →
-        Put (tab ∷ shown kind frame) 57 at old new next
-    shown-put e long p = rw (← told, e) (put-as refl (omega (arith, hex-length frame)) p)
+  pub shown-put : (sent : Bool) (frame : List ℕ) → sent ≡ true → length frame ≡ frameLength → Put (tab ∷ hexText frame) m at old new next →
+      Put (tab ∷ shown sent frame) 57 at old new next
+  shown-put sent frame e long p = rw e (put-as refl (omega (arith, hex-length frame)) p)
 
-    pub hidden-put : sent ≡ false → Put (tab ∷ dash) m at old new next → Put (tab ∷ shown kind frame) 57 at old new next
-    hidden-put e p = rw (← told, e) (put-as refl (lit≤ tt) p)
+  pub hidden-put : (sent : Bool) (frame : List ℕ) → sent ≡ false → Put (tab ∷ dash) m at old new next → Put (tab ∷ shown sent frame) 57 at old new next
+  hidden-put sent frame e p = rw e (put-as refl (lit≤ tt) p)
 
 pub some-put : {at next : ℕ} {old new : List ℕ} {number : Option ℕ} {n : ℕ} → number ≡ some n → Put (tab ∷ decimal n) 21 at old new next →
     Put (tab ∷ numberText number) 21 at old new next

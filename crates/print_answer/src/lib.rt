@@ -1,4 +1,5 @@
 // An answer's text, written into an out buffer: document 01, "Output per line".
+use basis::FRAME_LENGTH;
 use basis::Kind;
 use basis::Moment;
 use basis::Refusal;
@@ -13,7 +14,6 @@ ghost use Rattle.basis_lines.specs.Numbers.{decimal};
 ghost use Rattle.basis_lines.specs.Answers.{dash, numberText, refusedText, longestAnswer, written};
 ghost use Rattle.print_digits.specs.Put.{Put};
 ghost use Rattle.print_answer.specs.AcceptedText.{shown, acceptedWith};
-ghost use Rattle.print_answer.specs.AcceptedText.{sends as Spec·sends};
 
 // Puts a tab and a number at a place, and answers the place after it. So do the others named `put`.
 fn put_number(n: u64, out: &mut [u8], at: usize) -> usize
@@ -54,28 +54,12 @@ fn put_next(next: Moment, out: &mut [u8], at: usize) -> usize
     }
 }
 
-// Whether a kind hands out a frame.
-fn sends(kind: Kind) -> bool
-    ensures { λ r. ⌜ r ≡ Spec·sends kind ⌝ }
-{
-    match kind {
-        Kind::Fresh => false,
-        Kind::Taken => false,
-        Kind::Nothing => false,
-        Kind::Probe => true,
-        Kind::Announce => true,
-        Kind::Defend => true,
-        Kind::Lost => false,
-        Kind::Kept => false,
-        Kind::Dropped => false,
-    }
-}
-
-fn put_frame(kind: Kind, frame: &[u8; 28], out: &mut [u8], at: usize) -> usize
+// The frame in hex, if one was sent.
+fn put_frame(sent: bool, frame: &[u8; FRAME_LENGTH], out: &mut [u8], at: usize) -> usize
     requires { ⌜ at + 57 ≤ length (now out) ⌝ }
-    ensures { λ r. ⌜ Put (tab ∷ shown kind (now (frame .entry))) 57 at (now (out .entry)) (now (out .exit)) r ⌝ }
+    ensures { λ r. ⌜ Put (tab ∷ shown sent (now (frame .entry))) 57 at (now (out .entry)) (now (out .exit)) r ⌝ }
 {
-    if sends(kind) {
+    if sent {
         out[at] = b'\t';
         print_digits::put_hex(frame, out, at + 1)
     } else {
@@ -92,22 +76,23 @@ fn put_newline(out: &mut [u8], at: usize) -> usize
     at + 1
 }
 
-// Writes `ok`, kind, slot, next deadline, and the frame if the kind hands one out. Answers how many bytes.
+// Writes `ok`, kind, slot, next deadline, and the frame if one was sent. Answers how many bytes.
 pub fn accepted(
     kind: Kind,
     slot: SlotNumber,
     next: Moment,
-    frame: &[u8; 28],
+    sent: bool,
+    frame: &[u8; FRAME_LENGTH],
     out: &mut [u8],
 ) -> usize
     requires { ⌜ longestAnswer ≤ length (now out) ⌝ }
-    ensures { λ r. ⌜ r ≡ length (acceptedWith (record { kind = kind; slot = slotOf slot; next = timeOf next }) (shown kind (now (frame .entry)))) ⌝ }
-    ensures { λ r. ⌜ now (out .exit) ≡ written (acceptedWith (record { kind = kind; slot = slotOf slot; next = timeOf next }) (shown kind (now (frame .entry)))) (now (out .entry)) ⌝ }
+    ensures { λ r. ⌜ r ≡ length (acceptedWith (record { kind = kind; slot = slotOf slot; next = timeOf next }) (shown sent (now (frame .entry)))) ⌝ }
+    ensures { λ r. ⌜ now (out .exit) ≡ written (acceptedWith (record { kind = kind; slot = slotOf slot; next = timeOf next }) (shown sent (now (frame .entry)))) (now (out .entry)) ⌝ }
 {
     let slot_at = print_kind::put_kind(kind, out);
     let next_at = put_slot(slot, out, slot_at);
     let frame_at = put_next(next, out, next_at);
-    let end = put_frame(kind, frame, out, frame_at);
+    let end = put_frame(sent, frame, out, frame_at);
     put_newline(out, end)
 }
 

@@ -4,60 +4,54 @@ use mathlib.Core.Path.{_≡_, refl, ap, sym, subst, _∙_}
 use mathlib.Core.List.{List}
 use mathlib.Core.Option.{Option, none, some, Option·map}
 use lib.ListN.{length, take}
-use Rattle.basis.specs.declared.Time.{Time}
-use Rattle.basis.specs.declared.HardwareAddress.{HardwareAddress}
+use Rattle.basis.specs.Frame.{frameLength}
 use Rattle.basis.specs.declared.Interface.{Interface}
-use Rattle.basis_engine.specs.Calls as Calls
-use Rattle.basis_engine.specs.Calls.{Call}
+use Rattle.basis.specs.declared.Call.{Call}
+use Rattle.basis.specs.declared.Call.the-variants as Call
+use Rattle.basis_engine.specs.Calls.{freshOutcome, askOutcome, tickOutcome, dropOutcome}
+use Rattle.basis_engine.specs.Refusals.{freshRefusal, askRefusal, tickRefusal, dropRefusal}
+use Rattle.basis_engine.specs.Machine.{refusalOf, outcomeOf, resultOf, Invocation}
 use Rattle.basis_engine.proofs.PacketHead.{outcome-head, result-head}
-use Rattle.parse_forms.specs.Commands.{headed, commandCall, Makes}
+use Rattle.basis_lines.specs.Forms.{made, callOf}
+use Rattle.basis_lines.specs.Answers.{Answered, written, malformed, answerTo, lineAnswer}
+use Rattle.parse_forms.specs.Commands.{asked, headed, Makes}
 use Rattle.parse_forms.specs.declared.Command.{Command}
-use Rattle.basis_lines.specs.Forms.{lentBuffer, callOf}
-use Rattle.basis_lines.specs.Answers.{written, refusedText, answerTo, lineAnswer}
-use Rattle.engine_calls.specs.declared.Call as Made
-use Rattle.engine_calls.specs.Performed.{callWith}
-use Rattle.replay_plans.specs.declared.Plan.{Plan}
-use Rattle.replay_plans.specs.declared.Plan.the-variants as Plan
-use Rattle.replay_plans.specs.Plans.{plannedCall, Plans}
+use Rattle.parse_forms.specs.declared.Command.the-variants as Command
+use Rattle.parse_forms.specs.declared.Parsed.{Parsed}
 use Rattle.replay_call.specs.AnswerText.{Gives}
 
--- A line whose packet is cut to its first 28 bytes is answered in the same way.
-pub headed-answer : (s : Interface) (call : Option Call) → answerTo s (Option·map headed call) ≡ answerTo s call
+-- A call with no more than the first 28 bytes of a packet is answered in the same way.
+headed-call : (s : Interface) (call : Call) (bytes lent : List ℕ)
+    → answerTo s (some (headed (record { call = call; bytes = bytes; lent = lent })))
+    ≡ answerTo s (some (record { call = call; bytes = bytes; lent = lent }))
+unfolding resultOf refusalOf outcomeOf
+headed-call s (Call.Fresh setup) bytes lent = refl
+headed-call s (Call.Ask time wanted policy draw) bytes lent = refl
+headed-call s (Call.Tick time draw) bytes lent = refl
+headed-call s (Call.Packet time) bytes lent = rw (result-head s time bytes lent, outcome-head s time bytes lent)
+headed-call s (Call.Drop time slot) bytes lent = refl
+
+headed-answer : (s : Interface) (asks : Option Invocation) → answerTo s (Option·map headed asks) ≡ answerTo s asks
 headed-answer s none = refl
-headed-answer s (some (Calls.fresh own)) = refl
-headed-answer s (some (Calls.ask time wanted policy draw)) = refl
-headed-answer s (some (Calls.tick time draw out)) = refl
-headed-answer s (some (Calls.packet time bytes out)) = rw (result-head s time bytes out, outcome-head s time bytes out)
-headed-answer s (some (Calls.drop time slot)) = refl
+headed-answer s (some i) = headed-call s (i .call) (i .bytes) (i .lent)
 
--- A command of a line carried out.
-module _ (s : Interface) (state : Interface) (n : ℕ) (head old new : List ℕ) (command : Command) where
-  module _ (plan : Plan) (made : Plans plan command) where
-    carried : (same : Plan) → plan ≡ same → Gives (answerTo s (plannedCall same head)) state n old new
-        → Gives (answerTo s (commandCall command head)) state n old new
-    carried same is =
-        subst (λ call. Gives (answerTo s call) state n old new) (ap (λ p. plannedCall p head) (sym is) ∙ made .makes head)
-
-    pub malformed-carried : plan ≡ Plan.Malformed → state ≡ s → n ≡ length (refusedText 14) → new ≡ written (refusedText 14) old
-        → Gives (answerTo s (commandCall command head)) state n old new
-    malformed-carried is e h k = carried Plan.Malformed is (record { state-after = e; counted = h; bytes = k })
-
-    pub fresh-carried : (own : HardwareAddress) → plan ≡ Plan.Fresh own → Gives (answerTo s (some (Calls.fresh own))) state n old new
-        → Gives (answerTo s (commandCall command head)) state n old new
-    fresh-carried own is = carried (Plan.Fresh own) is
-
-    pub call-carried : (time : Time) (call : Made.Call) (count : ℕ) (bytes : List ℕ) → plan ≡ Plan.Call time call count → bytes ≡ take count head
-        → Gives (answerTo s (some (callWith time call bytes lentBuffer))) state n old new
-        → Gives (answerTo s (commandCall command head)) state n old new
-    call-carried time call count bytes is cut g =
-        carried (Plan.Call time call count) is
-        (subst (λ b. Gives (answerTo s (some (callWith time call b lentBuffer))) state n old new) cut g)
-
-  -- What a line's command gives is what the line comes to.
-  pub line-gives : (line : List ℕ) → Makes command head (callOf line)
-      → Gives (answerTo s (commandCall command head)) state n old new → Gives (lineAnswer s line) state n old new
+-- The line's command: what it asks for is answered as the line.
+module _ (s : Interface) (line head : List ℕ) (parsed : Parsed) (makes : Makes parsed head (callOf line))
+    (state : Interface) (n : ℕ) (old new : List ℕ) where
+  line-answered : (command : Command) → parsed .command ≡ command → answerTo s (asked command (take (parsed .count) head)) ≡ lineAnswer s line
   unfolding lineAnswer
-  line-gives line made =
-      subst (λ a. Gives a state n old new) (ap (answerTo s) (made .makes) ∙ headed-answer s (callOf line))
+  line-answered command is =
+      ap (λ c. answerTo s (asked c (take (parsed .count) head))) (sym is) ∙ ap (answerTo s) (makes .makes) ∙ headed-answer s (callOf line)
 
-pub ruleset carried-ends = (malformed-carried, fresh-carried, call-carried)
+  gives : (command : Command) → parsed .command ≡ command → Gives (answerTo s (asked command (take (parsed .count) head))) state n old new
+      → Gives (lineAnswer s line) state n old new
+  gives command is = subst (λ a. Gives a state n old new) (line-answered command is)
+
+  pub malformed-line : parsed .command ≡ Command.Malformed → state ≡ s → n ≡ length (malformed s .text) → new ≡ written (malformed s .text) old
+      → Gives (lineAnswer s line) state n old new
+  malformed-line is e h k = gives Command.Malformed is (record { state-after = e; counted = h; bytes = k })
+
+  pub call-line : (call : Call) (bytes : List ℕ) → parsed .command ≡ Command.Call call → bytes ≡ take (parsed .count) head
+      → Gives (answerTo s (some (made call bytes))) state n old new → Gives (lineAnswer s line) state n old new
+  call-line call bytes is cut g =
+      gives (Command.Call call) is (subst (λ b. Gives (answerTo s (some (made call b))) state n old new) cut g)

@@ -1,23 +1,24 @@
 -- `parse_command::parse`: the five words, and any other line.
 use borrow.Author.Needs.{needs}
-use Rattle.parse_command.proofs.CommandLaws.{ask-line, drop-line, fresh-line, no-line, packet-line, tick-line, too-long}
+use Rattle.parse_command.specs.declared.Word.the-variants as Word
+use Rattle.parse_command.proofs.CommandLaws.{timed-line, fresh-line, no-line, too-long}
 use Rattle.parse_command.proofs.parse.Statement.{statement}
 use Rattle.parse_command.proofs.parse.Tie as tie
 
 returns : tie.Need-returns
-returns c = too-long _ _ (search needs)
+returns c = search (too-long, needs)
 
 returns-2 : tie.Need-returns-2
-returns-2 c = search tick-line
+returns-2 c = search (timed-line Word.Tick)
 
 returns-3 : tie.Need-returns-3
-returns-3 c = search packet-line
+returns-3 c = search (timed-line Word.Packet)
 
 returns-4 : tie.Need-returns-4
-returns-4 c = search ask-line
+returns-4 c = search (timed-line Word.Ask)
 
 returns-5 : tie.Need-returns-5
-returns-5 c = search drop-line
+returns-5 c = search (timed-line Word.Drop)
 
 returns-6 : tie.Need-returns-6
 returns-6 c = search fresh-line
@@ -29,9 +30,6 @@ pub parse-spec : {M : Type 1} → statement M
 parse-spec =
     tie.close
     (tie.spec
-    (λ c. search needs)
-    (λ c κs. search needs)
-    (λ c κs. search needs)
     (λ c κs. search needs)
     (λ c. search needs)
     (λ c κs. search needs)
@@ -46,6 +44,12 @@ parse-spec =
     (λ c κs. search needs)
     (λ c κs. search needs)
     (λ c. search needs)
+    (λ c κs. search needs)
+    (λ c κs. search needs)
+    (λ c κs. search needs)
+    (λ c. search needs)
+    (λ c κs. search needs)
+    (λ c κs. search needs)
     (λ c κs. search needs)
     (λ c κs. search needs)
     (λ c κs. search needs)

@@ -3,13 +3,14 @@ use Prim.Native.Nat.{_-_, _≤_}
 use mathlib.Core.Path.{_≡_}
 use lib.ListN.{length, take}
 use borrow.Author.Needs.{needs}
+use Rattle.basis.specs.Frame.{frameLength}
 use Rattle.parse_hex.specs.HexValues.{pairs}
 use Rattle.parse_hex.proofs.HexLaws.{short-again, short-done}
 use Rattle.parse_hex.proofs.read_short.Statement.{statement}
 use Rattle.parse_hex.proofs.read_short.Tie as tie
 
 abbrev Inv-loop : tie.InvT-loop
-Inv-loop text head₀ end i₀ head i = (i ≤ end) × (length head ≡ 28) × (take i head ≡ take i (pairs text))
+Inv-loop text head₀ end i₀ head i = (i ≤ end) × (length head ≡ frameLength) × (take i head ≡ take i (pairs text))
 
 abbrev μ-loop : tie.MeasureT-loop
 μ-loop text head₀ end i₀ head i = end - i

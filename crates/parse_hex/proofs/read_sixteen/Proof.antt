@@ -4,6 +4,7 @@ use mathlib.Core.Path.{_≡_}
 use native.Mathlib.Omega.{arith}
 use lib.ListN.{length, take}
 use borrow.Author.Needs.{needs}
+use Rattle.basis.specs.Frame.{frameLength}
 use Rattle.parse_hex.specs.HexValues.{pairs}
 use Rattle.parse_hex.proofs.HexLaws.{head-begins, head-again, head-done}
 use Rattle.parse_hex.proofs.read_sixteen.Statement.{statement}
@@ -11,7 +12,7 @@ use Rattle.parse_hex.proofs.read_sixteen.Tie as tie
 
 abbrev Inv-loop : tie.InvT-loop
 Inv-loop text head₀ start bytes kept₀ head kept =
-    (kept ≤ 16) × (length head ≡ 28) × (take (start + kept) head ≡ take (start + kept) (pairs text))
+    (kept ≤ 16) × (length head ≡ frameLength) × (take (start + kept) head ≡ take (start + kept) (pairs text))
 
 abbrev μ-loop : tie.MeasureT-loop
 μ-loop text head₀ start bytes kept₀ head kept = 16 - kept

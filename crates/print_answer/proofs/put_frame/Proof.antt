@@ -1,4 +1,4 @@
--- `print_answer::put_frame`: a tab and the 28 bytes, or none.
+-- `print_answer::put_frame`: a tab and the frame, or none.
 use mathlib.Core.Path.{_∙_}
 use native.Mathlib.Omega.{arith}
 use lib.ListN.{length-set}
@@ -17,28 +17,25 @@ same-length c = c .before .before .put-hex .kept .1 .0 ∙ simp length-set
 returns : tie.Need-returns
 returns c =
     let lent = c .before .before .before .before in
-    let tested = lent .before .before in
+    let tested = lent .before in
     let args = tested .before .before .args in
     shown-put
-    (args .kind)
+    (args .sent)
     (args .frame .now)
-    (tested .sends .ensures)
-    (lent .before .if1 .taken)
+    (tested .if1 .taken)
     (lent .put-hex-arg .given .0)
     (put-first (c .before .before .put-hex .ensures))
 
 returns-2 : tie.Need-returns-2
 returns-2 c =
-    let left = c .before .before .before .before in
-    let tested = left .before in
+    let tested = c .before .before .before .before in
     let args = tested .before .before .args in
-    hidden-put (args .kind) (args .frame .now) (tested .sends .ensures) (left .if1 .left) (c .before .before .put-none .ensures)
+    hidden-put (args .sent) (args .frame .now) (tested .if1 .left) (c .before .before .put-none .ensures)
 
 pub put-frame-spec : {M : Type 1} → statement M
 put-frame-spec =
     tie.close
     (tie.spec
-    (λ c κs. search needs)
     (λ c. search needs)
     (λ c. search needs)
     put-hex-requires
