@@ -1,6 +1,7 @@
 -- A command carried out.
 use Prim.Native.Nat.{ℕ}
 use mathlib.Core.Path.{_≡_, refl, ap, sym, subst, _∙_}
+use mathlib.Core.Bool.{Bool, true, false}
 use mathlib.Core.List.{List}
 use mathlib.Core.Option.{Option, none, some, Option·map}
 use lib.ListN.{length, take}
@@ -13,6 +14,7 @@ use Rattle.basis_engine.specs.Machine.{refusalOf, outcomeOf, resultOf, Invocati
 use Rattle.basis_engine.proofs.PacketHead.{outcome-head, result-head}
 use Rattle.basis_lines.specs.Forms.{made, callOf}
 use Rattle.basis_lines.specs.Answers.{Answered, written, malformed, answerTo, lineAnswer}
+use Rattle.basis_lines.specs.Stream.{endedAnswer}
 use Rattle.parse_forms.specs.Commands.{asked, headed, Makes}
 use Rattle.parse_forms.specs.declared.Command.{Command}
 use Rattle.parse_forms.specs.declared.Command.the-variants as Command
@@ -52,7 +54,17 @@ module _ (s state : Interface) (n : ℕ) (head old new : List ℕ) (parsed : Par
       → Gives (answerTo s (some (made call bytes))) state n old new → Carried (parsed .command)
   call-carried call bytes is cut g = subst Carried (sym is) (subst (λ b. Gives (answerTo s (some (made call b))) state n old new) cut g)
 
-  -- What a line's command comes to is what the line comes to.
-  pub line-gives : (line : List ℕ) → Makes parsed head (callOf line) → Carried (parsed .command) → Gives (lineAnswer s line) state n old new
+  -- What a line's command comes to is what the line comes to, unless it is too long already.
+  abbrev Ended : Bool → List ℕ → Type 0
+  Ended skipping line = Gives (endedAnswer (record { state = s; skipping = skipping }) line) state n old new
+
+  pub line-gives : (skipping : Bool) (line : List ℕ) → skipping ≡ false → Makes parsed head (callOf line) → Carried (parsed .command) → Ended skipping line
   unfolding lineAnswer
-  line-gives line made = subst (λ a. Gives a state n old new) (ap (answerTo s) (made .makes) ∙ headed-answer s (callOf line))
+  line-gives skipping line short made g =
+      subst (λ t. Ended t line) (sym short)
+      (subst (λ a. Gives a state n old new) (ap (answerTo s) (made .makes) ∙ headed-answer s (callOf line)) g)
+
+pub too-long-gives : (s : Interface) (n : ℕ) (old new : List ℕ) (skipping : Bool) (line : List ℕ) → skipping ≡ true
+    → n ≡ length (malformed s .text) → new ≡ written (malformed s .text) old
+    → Gives (endedAnswer (record { state = s; skipping = skipping }) line) s n old new
+too-long-gives s n old new skipping line long h k = rw long (record { state-after = refl; counted = h; bytes = k })
