@@ -18,6 +18,6 @@ pub fn answer(state: Interface, line: &[u8], out: &mut [u8]) -> AnsweredLine
         AnsweredLine { state, written: 0 }
     } else {
         let sound = engine_soundness::is_sound(state);
-        replay_command::answer_line(state, sound, line, out)
+        replay_command::answer_line(state, sound, false, line, out)
     }
 }

@@ -9,6 +9,8 @@ use native.Mathlib.Omega.{arith}
 use lib.Dec.{ltb}
 use lib.ListN.{length, take, drop, length-drop, take-append-drop}
 use lib.Seq.{length-take-le, drop-drop}
+use Rattle.basis.specs.Answers.{refusalNumber}
+use Rattle.basis.specs.declared.Refusal.the-variants.{LineMalformed}
 use Rattle.basis.specs.declared.Interface.{Interface}
 use Rattle.basis_engine.specs.Interface.{isSound}
 use Rattle.basis_lines.specs.declared.Stream.{Stream}
@@ -16,11 +18,10 @@ use Rattle.basis_lines.specs.Fields.{newline, firstPart}
 use Rattle.basis_lines.specs.Answers.{longestAnswer, written}
 use Rattle.basis_lines.specs.Forms.{longestLine}
 use Rattle.basis_lines.specs.Stream.{Work, endedAnswer, atLineStart, wait, afterwards, work}
-use Rattle.basis_lines.proofs.AnswerLaws.{line-stays-sound}
+use Rattle.basis_lines.proofs.AnswerLaws.{refused-at-most, longest-answer, line-stays-sound}
 use Rattle.basis_lines.proofs.FieldLaws.{first-length}
 use Rattle.basis_lines.proofs.StreamLaws.{afterwards-nothing, afterwards-twice, lineDone, work-line, work-wait}
-use Rattle.replay_stream.proofs.Places.{take-written, drop-written, has-room}
-use Rattle.replay_turns.specs.LineEnd.{writtenAt}
+use Rattle.replay_stream.proofs.Places.{writtenAt, take-written, drop-written, length-written}
 
 -- What holds after some lines: how far the loop is in the input and in the out buffer, and that the whole work is what was
 -- written, then the work on the rest.
@@ -49,6 +50,14 @@ line-next : (st : Stream) (line input : List ℕ) (room : ℕ)
 line-next st line input room line-is ended =
     work-line st input room (subst (λ l. length l < length input) line-is ended)
     ∙ ap (λ l. lineDone st l (drop (suc (length l)) input) room) (sym line-is)
+
+-- Its answer is no longer than any.
+ended-at-most : (st : Stream) (line : List ℕ) → length (endedAnswer st line .text) ≤ longestAnswer
+ended-at-most st line = by (st .skipping)
+  where
+    by : (skipping : Bool) → length (endedAnswer (record { state = st .state; skipping = skipping }) line .text) ≤ longestAnswer
+    by true = refused-at-most (refusalNumber LineMalformed)
+    by false = longest-answer (st .state) line
 
 -- No byte 10 is left: whether a line that is begun is too long, and what is used up, go by one test.
 abbrev pub isTooLong : Stream → ℕ → Bool
@@ -128,14 +137,14 @@ module _ {st₀ : Stream} {input out₀ : List ℕ} {st : Stream} {at done : ℕ
         → s ≡ endedAnswer st line .state
         → n ≡ length (endedAnswer st line .text)
         → out₁ ≡ writtenAt done (endedAnswer st line .text) out
-        → length out₁ ≡ length out
         → Turns st₀ input out₀ (atLineStart s) (at + (length line + 1)) (done + n) out₁
-    turn {out₁ = out₁} ended room s-is n-is out-is sized =
+    turn {out₁ = out₁} ended room s-is n-is out-is =
         let text : List ℕ = endedAnswer st line .text in
         let rest : List ℕ → ℕ → Work = work (atLineStart (endedAnswer st line .state)) in
         let inside : done ≤ length out = omega (arith, t .room, t .sized) in
         let ends : length line < length (drop at input) = ended-line ended in
-        let fits : done + length text ≤ length out = has-room done text out inside (sym (ap length out-is) ∙ sized) in
+        let fits : done + length text ≤ length out = omega (arith, room, inside, ended-at-most st line) in
+        let sized : length out₁ ≡ length out = ap length out-is ∙ length-written done text out inside fits in
         let text-is : take (done + length text) out₁ ≡ take done out ++ text =
         ap (take (done + length text)) out-is ∙ take-written done text out inside in
         let room-is : length out₀ - (done + length text) ≡ length out₀ - done - length text = omega arith in

@@ -2,15 +2,16 @@
 // next piece.
 use basis::HardwareAddress;
 use basis::Interface;
-use basis::Moment;
-use basis::Time;
+use basis::Setup;
 use basis_lines::LONGEST_ANSWER;
 use basis_lines::LONGEST_LINE;
 use basis_lines::Stream;
+ghost use Prim.Native.Nat.{_≤_};
 ghost use mathlib.Core.Path.{_≡_};
-ghost use mathlib.Core.Bool.{cond};
-ghost use lib.ListN.{length};
-ghost use Rattle.basis_engine.specs.Interface.{zeros};
+ghost use mathlib.Core.Bool.{true, cond};
+ghost use lib.ListN.{length, drop};
+ghost use Rattle.basis_engine.specs.Interface.{isSound, zeros};
+ghost use Rattle.basis_lines.specs.Fields.{newline, firstPart};
 ghost use Rattle.basis_lines.specs.Answers.{hasRoom, written};
 ghost use Rattle.basis_lines.specs.Stream.{atLineStart, keptLength, kept};
 ghost use Rattle.basis_lines.specs.Stream as Streams;
@@ -34,16 +35,33 @@ pub struct Finished {
 pub fn begin() -> Stream
     ensures { λ r. ⌜ r ≡ atLineStart zeros ⌝ }
 {
-    let free = engine_decisions::free_record();
+    let setup = Setup {
+        hardware: HardwareAddress(0),
+    };
     Stream {
-        state: Interface {
-            hardware: HardwareAddress(0),
-            latest: Time(0),
-            asked: Moment::Never,
-            conflicts: 0,
-            records: [free, free, free, free],
-        },
+        state: engine_state::new_interface(setup),
         skipping: false,
+    }
+}
+
+// The line that begins at a place of the input, up to the next byte 10 or to the input's end.
+fn line_at(input: &[u8], at: usize) -> &[u8]
+    requires { ⌜ at ≤ length (now input) ⌝ }
+    ensures { λ r. ⌜ now r ≡ firstPart newline (drop at (now (input .entry))) ⌝ }
+{
+    parse_fields::part(&input[at..], b'\n')
+}
+
+// Whether a state is sound, where it may be known already that it is. No call makes a sound state unsound, so the lines of an
+// input ask once.
+fn is_sound(state: Interface, known: bool) -> bool
+    requires { ⌜ (known ≡ true → isSound state ≡ true) ⌝ }
+    ensures { λ r. ⌜ r ≡ isSound state ⌝ }
+{
+    if known {
+        true
+    } else {
+        engine_soundness::is_sound(state)
     }
 }
 
@@ -62,7 +80,7 @@ pub fn work(stream: Stream, input: &[u8], out: &mut [u8]) -> Worked
     let mut done = 0;
     let mut sound = false;
     loop {
-        let line = replay_turns::line_at(input, at);
+        let line = line_at(input, at);
         // No byte 10 is left.
         if line.len() == input.len() - at {
             let too_long = skipping | (LONGEST_LINE < line.len());
@@ -85,8 +103,9 @@ pub fn work(stream: Stream, input: &[u8], out: &mut [u8]) -> Worked
                 waiting: false,
             };
         }
-        sound = replay_turns::is_sound(state, sound);
-        let answered = replay_turns::answer_at(state, sound, skipping, line, out, done);
+        sound = is_sound(state, sound);
+        let rest = &mut out[done..];
+        let answered = replay_command::answer_line(state, sound, skipping, line, rest);
         let next = answered.state;
         state = engine_state::copy(next);
         skipping = false;

@@ -3,9 +3,11 @@ use Prim.Native.Nat.{_-_}
 use mathlib.Core.Path.{_≡_, _∙_}
 use mathlib.Core.Bool.{true, false≢true}
 use native.Mathlib.Omega.{arith}
-use lib.ListN.{length}
+use lib.ListN.{length, length-drop}
 use borrow.Author.Needs.{needs}
 use Rattle.basis_engine.specs.Interface.{isSound}
+use Rattle.basis_lines.specs.Stream.{endedAnswer}
+use Rattle.replay_stream.proofs.Places.{rest-of, put-back}
 use Rattle.replay_stream.proofs.Turns.{Turns, begins, carried, turn, stops, waits}
 use Rattle.replay_stream.proofs.work.Statement.{statement}
 use Rattle.replay_stream.proofs.work.Tie as tie
@@ -54,8 +56,10 @@ returns-3 c =
 is-sound-requires : tie.Need-is-sound-requires Inv-loop μ-loop
 is-sound-requires c κs = c .before .before .before .loop .inv .1
 
-answer-at-requires : tie.Need-answer-at-requires Inv-loop μ-loop
-answer-at-requires c κs = (c .before .is-sound .ensures, omega arith)
+answer-line-requires : tie.Need-answer-line-requires Inv-loop μ-loop
+answer-line-requires c κs =
+    let looped = c .before .before .before .before .before .loop in
+    (c .before .is-sound .ensures, rw (rest-of (looped .done) (looped .out), length-drop) (omega (arith, c .before .before .if3 .left)))
 
 add-at : tie.Need-add-at Inv-loop μ-loop
 add-at c = omega arith
@@ -67,20 +71,26 @@ add-at-2 c =
 
 loop-again : tie.Need-loop-again Inv-loop μ-loop
 loop-again c =
-    let answer = c .before .before .before .before .before .answer-at in
+    let answer = c .before .before .before .before .before .answer-line .ensures in
     let sure = c .before .before .before .before .before .before .before .is-sound in
     let room = c .before .before .before .before .before .before .before .before in
-    let next = c .before .interface .ensures ∙ answer .ensures .0 in (
+    let looped = room .before .before .before .loop in
+    let line = room .before .before .line-at .result .now in
+    let next = c .before .copy .ensures ∙ answer .state-after in (
       turn
-          (room .before .before .before .loop .inv .0)
+          (looped .inv .0)
           (room .before .before .line-at .ensures)
           (room .before .if1 .left)
           (room .if3 .left)
           next
-          (answer .ensures .1 .0)
-          (answer .ensures .1 .1)
-          (answer .kept .1 .1 .1 .1 .0),
-      carried (room .before .before .before .loop .inv .0) (room .before .before .line-at .ensures) next (sure .ensures),
+          (answer .counted)
+          (put-back
+          (looped .done)
+          (endedAnswer (record { state = looped .state; skipping = looped .skipping }) line .text)
+          (looped .out)
+          _
+          (answer .bytes)),
+      carried (looped .inv .0) (room .before .before .line-at .ensures) next (sure .ensures),
     )
 
 add-done : tie.Need-add-done Inv-loop μ-loop
@@ -108,7 +118,10 @@ work-spec =
     same-length-3
     returns-3
     is-sound-requires
-    answer-at-requires
+    (λ c. search needs)
+    (λ c. search needs)
+    (λ c. search needs)
+    answer-line-requires
     (λ c κs. search needs)
     add-at
     add-at-2
