@@ -29,9 +29,11 @@ use Rattle.parse_forms.specs.declared.Parsed.{Parsed}
 use Rattle.parse_forms.specs.Commands.{asked, headed, Makes, ifCount}
 use Rattle.parse_forms.proofs.Counts.{ReadNext}
 use Rattle.parse_forms.proofs.FormsLaws.{no-number, no-tab-behind, number-then}
+use Rattle.parse_command.specs.declared.Form.{Form}
+use Rattle.parse_command.specs.declared.Form.the-variants as Form
 use Rattle.parse_command.specs.declared.Word.{Word}
 use Rattle.parse_command.specs.declared.Word.the-variants as Word
-use Rattle.parse_command.specs.Words.{formOf, timedCall}
+use Rattle.parse_command.specs.Words.{rowOf, timedCall, wordCall}
 
 -- A command without bytes.
 whole-command : (command : Command) → asked command [] ≡ Option·map headed (asked command [])
@@ -43,15 +45,15 @@ module _ (r : Parsed) (command : Command) (same : (r .command ≡ command) × (r
   plain-makes e = record { makes = rw (same .0, same .1) (whole-command command ∙ ap (Option·map headed) e) }
 
 -- The fields behind the time.
-module _ (same word : Word) (is : word ≡ same) (t : Time) (rest head : List ℕ) (r : Parsed) where
-  pub by-word : Makes r head (ifCount (formOf same .count) (formOf same .call t) ([] ∷ [] ∷ parts tab rest))
-      → Makes r head (ifCount (formOf word .count) (formOf word .call t) ([] ∷ [] ∷ parts tab rest))
-  by-word = subst (λ w. Makes r head (ifCount (formOf w .count) (formOf w .call t) ([] ∷ [] ∷ parts tab rest))) (sym is)
+module _ (same form : Form) (is : form ≡ same) (t : Time) (rest head : List ℕ) (r : Parsed) where
+  pub by-form : Makes r head (ifCount (rowOf same .count) (rowOf same .call t) ([] ∷ [] ∷ parts tab rest))
+      → Makes r head (ifCount (rowOf form .count) (rowOf form .call t) ([] ∷ [] ∷ parts tab rest))
+  by-form = subst (λ f. Makes r head (ifCount (rowOf f .count) (rowOf f .call t) ([] ∷ [] ∷ parts tab rest))) (sym is)
 
-  pub plain-by-word : (command : Command) → (r .command ≡ command) × (r .count ≡ 0)
-      → asked command [] ≡ ifCount (formOf same .count) (formOf same .call t) ([] ∷ [] ∷ parts tab rest)
-      → Makes r head (ifCount (formOf word .count) (formOf word .call t) ([] ∷ [] ∷ parts tab rest))
-  plain-by-word command same-command e = by-word (plain-makes r command same-command head _ e)
+  pub plain-by-form : (command : Command) → (r .command ≡ command) × (r .count ≡ 0)
+      → asked command [] ≡ ifCount (rowOf same .count) (rowOf same .call t) ([] ∷ [] ∷ parts tab rest)
+      → Makes r head (ifCount (rowOf form .count) (rowOf form .call t) ([] ∷ [] ∷ parts tab rest))
+  plain-by-form command same-command e = by-form (plain-makes r command same-command head _ e)
 
 -- The time.
 time-then : {A : Type 0} (o : Option ℕ) (next : Time → Option A)
@@ -59,37 +61,37 @@ time-then : {A : Type 0} (o : Option ℕ) (next : Time → Option A)
 time-then none next = refl
 time-then (some ms) next = refl
 
-pub time-next : (word : Word)
-    → ReadNext (formOf word .count) ([] ∷ []) (timedCall (formOf word)) (number largest) (λ ms. formOf word .call (record { 0 = ms }))
-time-next Word.Tick = record { not-last = omega arith; reads = λ x ys. time-then (number largest x) _ }
-time-next Word.Packet = record { not-last = omega arith; reads = λ x ys. time-then (number largest x) _ }
-time-next Word.Ask = record { not-last = omega arith; reads = λ x ys. time-then (number largest x) _ }
-time-next Word.Drop = record { not-last = omega arith; reads = λ x ys. time-then (number largest x) _ }
+pub time-next : (form : Form)
+    → ReadNext (rowOf form .count) ([] ∷ []) (timedCall (rowOf form)) (number largest) (λ ms. rowOf form .call (record { 0 = ms }))
+time-next Form.Tick = record { not-last = omega arith; reads = λ x ys. time-then (number largest x) _ }
+time-next Form.Packet = record { not-last = omega arith; reads = λ x ys. time-then (number largest x) _ }
+time-next Form.Ask = record { not-last = omega arith; reads = λ x ys. time-then (number largest x) _ }
+time-next Form.Drop = record { not-last = omega arith; reads = λ x ys. time-then (number largest x) _ }
 
-module _ (word : Word) (rest head : List ℕ) (r : Reading) (told : readingOf r ≡ number largest (firstPart tab rest)) where
+module _ (form : Form) (rest head : List ℕ) (r : Reading) (told : readingOf r ≡ number largest (firstPart tab rest)) where
   abbrev behindWord : Option Invocation
-  behindWord = ifCount (formOf word .count) (timedCall (formOf word)) ([] ∷ parts tab rest)
+  behindWord = ifCount (rowOf form .count) (timedCall (rowOf form)) ([] ∷ parts tab rest)
 
   pub no-time : (p : Parsed) → (p .command ≡ Command.Malformed) × (p .count ≡ 0) → r ≡ Reading.Malformed → Makes p head behindWord
-  no-time p same is = plain-makes p Command.Malformed same head behindWord (no-number (time-next word) rest r told is)
+  no-time p same is = plain-makes p Command.Malformed same head behindWord (no-number (time-next form) rest r told is)
 
   module _ (ms end : ℕ) (is : r ≡ Reading.Number ms) (ends : (m : ℕ) → readingOf r ≡ some m → end ≡ length (firstPart tab rest)) where
     pub time-alone : (p : Parsed) → (p .command ≡ Command.Malformed) × (p .count ≡ 0) → length rest ≤ end → Makes p head behindWord
     time-alone p same all =
-        plain-makes p Command.Malformed same head behindWord (no-tab-behind (time-next word) rest r told ms end is ends all)
+        plain-makes p Command.Malformed same head behindWord (no-tab-behind (time-next form) rest r told ms end is ends all)
 
     pub timed : end < length rest → (last : List ℕ) → last ≡ drop (suc end) rest → (p : Parsed)
-        → Makes p head (ifCount (formOf word .count) (formOf word .call (record { 0 = ms })) ([] ∷ [] ∷ parts tab last)) → Makes p head behindWord
-    timed more last behind p = subst (Makes p head) (number-then (time-next word) rest r told ms end is ends more last behind)
+        → Makes p head (ifCount (rowOf form .count) (rowOf form .call (record { 0 = ms })) ([] ∷ [] ∷ parts tab last)) → Makes p head behindWord
+    timed more last behind p = subst (Makes p head) (number-then (time-next form) rest r told ms end is ends more last behind)
 
 -- A line that is a form's word, a tab and more makes that form's call.
-timed-form : (word : Word) (rest : List ℕ)
-    → callIn (parts tab (formOf word .word ++ (tab ∷ rest))) ≡ ifCount (formOf word .count) (timedCall (formOf word)) ([] ∷ parts tab rest)
+timed-form : (form : Form) (rest : List ℕ)
+    → callIn (parts tab (rowOf form .word ++ (tab ∷ rest))) ≡ ifCount (rowOf form .count) (timedCall (rowOf form)) ([] ∷ parts tab rest)
 unfolding callIn parts
-timed-form Word.Tick rest = refl
-timed-form Word.Packet rest = refl
-timed-form Word.Ask rest = refl
-timed-form Word.Drop rest = refl
+timed-form Form.Tick rest = refl
+timed-form Form.Packet rest = refl
+timed-form Form.Ask rest = refl
+timed-form Form.Drop rest = refl
 
 fresh-form : (rest : List ℕ) → callIn (parts tab (freshWord ++ (tab ∷ rest))) ≡ ifCount 2 freshCall ([] ∷ parts tab rest)
 unfolding callIn parts
@@ -148,61 +150,67 @@ module _ (word line : List ℕ) where
       cases true t = absurd (true≢false (sym (ap (begun (withTab word)) (whole t) ∙ is-begun (withTab word) rest) ∙ e))
       cases false t = t
 
+module _ (word line : List ℕ) (b : Bool) (told : b ≡ begun (withTab word) line) (is : b ≡ true) where
+  begun-line : (call : List ℕ → Option Invocation) → ((l : List ℕ) → callIn (parts tab (word ++ (tab ∷ l))) ≡ call l)
+      → callIn (parts tab line) ≡ call (drop (suc (length word)) line)
+  begun-line call form = ap (λ l. callIn (parts tab l)) (begun-parts word line (sym told ∙ is)) ∙ form (drop (suc (length word)) line)
+
+-- The first word.
+pub timed-word : (form : Form) (line : List ℕ) (b : Bool) → b ≡ begun (withTab (rowOf form .word)) line → b ≡ true
+    → callIn (parts tab line) ≡ wordCall (Word.Timed form (length (rowOf form .word))) line
+timed-word form line b told is = begun-line (rowOf form .word) line b told is _ (timed-form form)
+
+pub fresh-word : (line : List ℕ) (b : Bool) → b ≡ begun (withTab freshWord) line → b ≡ true → callIn (parts tab line) ≡ wordCall Word.Fresh line
+fresh-word line b told is = begun-line freshWord line b told is _ fresh-form
+
+pub no-word : (line : List ℕ) (a b c d e : Bool)
+    → a ≡ begun (withTab tickWord) line → a ≡ false
+    → b ≡ begun (withTab packetWord) line → b ≡ false
+    → c ≡ begun (withTab askWord) line → c ≡ false
+    → d ≡ begun (withTab dropWord) line → d ≡ false
+    → e ≡ begun (withTab freshWord) line → e ≡ false
+    → callIn (parts tab line) ≡ none
+no-word line a b c d e a₁ a₂ b₁ b₂ c₁ c₂ d₁ d₂ e₁ e₂ = ⊎-elim alone more (eq-or-lt-of-le (first-length tab line))
+  where
+    alone : length (firstPart tab line) ≡ length line → callIn (parts tab line) ≡ none
+    alone h = ap callIn (one-part tab line h) ∙ no-fields line
+
+    more : length (firstPart tab line) < length line → callIn (parts tab line) ≡ none
+    more h =
+        ap callIn (more-parts tab line h)
+        ∙ no-form (firstPart tab line) _
+        (other-word tickWord line h (sym a₁ ∙ a₂))
+        (other-word packetWord line h (sym b₁ ∙ b₂))
+        (other-word askWord line h (sym c₁ ∙ c₂))
+        (other-word dropWord line h (sym d₁ ∙ d₂))
+        (other-word freshWord line h (sym e₁ ∙ e₂))
+
 -- A whole line.
-short-line : (line : List ℕ) → length line ≤ longestLine → callOf line ≡ callIn (parts tab line)
+pub too-long : (line head : List ℕ) (p : Parsed) → (p .command ≡ Command.Malformed) × (p .count ≡ 0) → longestLine < length line
+    → Makes p head (callOf line)
 unfolding callOf
-short-line line short = ap (λ t. cond t (callIn (parts tab line)) none) (le-leb (length line) longestLine short)
+too-long line head p same h = plain-makes p Command.Malformed same head (callOf line) (rw (lt-leb (length line) longestLine h))
 
-module _ (word : List ℕ) (line rest : List ℕ) (short : length line ≤ longestLine) (b : Bool) (told : b ≡ begun (withTab word) line) (is : b ≡ true)
-    (behind : rest ≡ drop (suc (length word)) line) where
-  begun-line : (call : List ℕ → Option Invocation) → ((l : List ℕ) → callIn (parts tab (word ++ (tab ∷ l))) ≡ call l) → call rest ≡ callOf line
-  begun-line call form =
-      sym
-      (short-line line short
-      ∙ ap (λ l. callIn (parts tab l)) (begun-parts word line (sym told ∙ is))
-      ∙ form (drop (suc (length word)) line)
-      ∙ ap call (sym behind))
-
-pub timed-line : (word : Word) (line rest : List ℕ) → length line ≤ longestLine → (b : Bool) → b ≡ begun (withTab (formOf word .word)) line → b ≡ true
-    → rest ≡ drop (suc (length (formOf word .word))) line → (head : List ℕ) (p : Parsed)
-    → Makes p head (ifCount (formOf word .count) (timedCall (formOf word)) ([] ∷ parts tab rest)) → Makes p head (callOf line)
-timed-line word line rest short b told is behind head p =
-    subst (Makes p head)
-    (begun-line (formOf word .word) line rest short b told is behind
-    (λ l. ifCount (formOf word .count) (timedCall (formOf word)) ([] ∷ parts tab l)) (timed-form word))
-
-pub fresh-line : (line rest : List ℕ) → length line ≤ longestLine → (b : Bool) → b ≡ begun (withTab freshWord) line → b ≡ true
-    → rest ≡ drop (suc (length freshWord)) line → (head : List ℕ) (p : Parsed) (command : Command)
-    → (p .command ≡ command) × (p .count ≡ 0) → asked command [] ≡ ifCount 2 freshCall ([] ∷ parts tab rest) → Makes p head (callOf line)
-fresh-line line rest short b told is behind head p command same e =
-    plain-makes p command same head (callOf line)
-    (e ∙ begun-line freshWord line rest short b told is behind (λ l. ifCount 2 freshCall ([] ∷ parts tab l)) fresh-form)
-
-module _ (line head : List ℕ) (p : Parsed) (same : (p .command ≡ Command.Malformed) × (p .count ≡ 0)) where
-  pub too-long : longestLine < length line → Makes p head (callOf line)
+module _ (line head : List ℕ) (short : length line ≤ longestLine) (word : Word) (told : callIn (parts tab line) ≡ wordCall word line) (p : Parsed) where
+  whole-line : (same : Word) → word ≡ same → wordCall same line ≡ callOf line
   unfolding callOf
-  too-long h = plain-makes p Command.Malformed same head (callOf line) (rw (lt-leb (length line) longestLine h))
+  whole-line same is =
+      sym
+      (ap (λ t. cond t (callIn (parts tab line)) none) (le-leb (length line) longestLine short)
+      ∙ told
+      ∙ ap (λ w. wordCall w line) is)
 
-  pub no-line : length line ≤ longestLine → (a b c d e : Bool)
-      → a ≡ begun (withTab tickWord) line → a ≡ false
-      → b ≡ begun (withTab packetWord) line → b ≡ false
-      → c ≡ begun (withTab askWord) line → c ≡ false
-      → d ≡ begun (withTab dropWord) line → d ≡ false
-      → e ≡ begun (withTab freshWord) line → e ≡ false
-      → Makes p head (callOf line)
-  no-line short a b c d e a₁ a₂ b₁ b₂ c₁ c₂ d₁ d₂ e₁ e₂ =
-      plain-makes p Command.Malformed same head (callOf line)
-      (sym (short-line line short ∙ ⊎-elim alone more (eq-or-lt-of-le (first-length tab line))))
-    where
-      alone : length (firstPart tab line) ≡ length line → callIn (parts tab line) ≡ none
-      alone h = ap callIn (one-part tab line h) ∙ no-fields line
+  pub timed-line : (form : Form) (end : ℕ) → word ≡ Word.Timed form end → (rest : List ℕ) → rest ≡ drop (suc end) line
+      → Makes p head (ifCount (rowOf form .count) (timedCall (rowOf form)) ([] ∷ parts tab rest)) → Makes p head (callOf line)
+  timed-line form end is rest behind =
+      subst (Makes p head)
+      (ap (λ l. ifCount (rowOf form .count) (timedCall (rowOf form)) ([] ∷ parts tab l)) behind ∙ whole-line (Word.Timed form end) is)
 
-      more : length (firstPart tab line) < length line → callIn (parts tab line) ≡ none
-      more h =
-          ap callIn (more-parts tab line h)
-          ∙ no-form (firstPart tab line) _
-          (other-word tickWord line h (sym a₁ ∙ a₂))
-          (other-word packetWord line h (sym b₁ ∙ b₂))
-          (other-word askWord line h (sym c₁ ∙ c₂))
-          (other-word dropWord line h (sym d₁ ∙ d₂))
-          (other-word freshWord line h (sym e₁ ∙ e₂))
+  pub fresh-line : word ≡ Word.Fresh → (rest : List ℕ) → rest ≡ drop (suc (length freshWord)) line → (command : Command)
+      → (p .command ≡ command) × (p .count ≡ 0) → asked command [] ≡ ifCount 2 freshCall ([] ∷ parts tab rest) → Makes p head (callOf line)
+  fresh-line is rest behind command same e =
+      plain-makes p command same head (callOf line)
+      (e ∙ ap (λ l. ifCount 2 freshCall ([] ∷ parts tab l)) behind ∙ whole-line Word.Fresh is)
+
+  pub other-line : word ≡ Word.Other → (p .command ≡ Command.Malformed) × (p .count ≡ 0) → Makes p head (callOf line)
+  other-line is same = plain-makes p Command.Malformed same head (callOf line) (whole-line Word.Other is)

@@ -11,16 +11,54 @@ use parse_numbers::Reading;
 ghost use mathlib.Core.Path.{_≡_};
 ghost use mathlib.Core.List.{[], _∷_};
 ghost use Rattle.basis_lines.specs.Fields.{tab, parts};
-ghost use Rattle.basis_lines.specs.Forms.{callOf};
+ghost use Rattle.basis_lines.specs.Forms.{callIn, callOf};
 ghost use Rattle.parse_forms.specs.Commands.{Makes, ifCount};
-ghost use Rattle.parse_command.specs.Words.{formOf, timedCall};
+ghost use Rattle.parse_command.specs.Words.{rowOf, timedCall, wordCall};
 
-// The words that a time follows.
-enum Word {
+// The forms whose word a time follows.
+enum Form {
     Tick,
     Packet,
     Ask,
     Drop,
+}
+
+// A line's first word, with its tab: that of a form with a time, and how long it is; `fresh`; or any other.
+enum Word {
+    Timed { form: Form, length: usize },
+    Fresh,
+    Other,
+}
+
+// The most frequent first.
+fn word_of(line: &[u8]) -> Word
+    ensures { λ r. ⌜ callIn (parts tab (now (line .entry))) ≡ wordCall r (now (line .entry)) ⌝ }
+{
+    if parse_fields::begins(line, b"tick\t") {
+        Word::Timed {
+            form: Form::Tick,
+            length: 4,
+        }
+    } else if parse_fields::begins(line, b"packet\t") {
+        Word::Timed {
+            form: Form::Packet,
+            length: 6,
+        }
+    } else if parse_fields::begins(line, b"ask\t") {
+        Word::Timed {
+            form: Form::Ask,
+            length: 3,
+        }
+    } else if parse_fields::begins(line, b"drop\t") {
+        Word::Timed {
+            form: Form::Drop,
+            length: 4,
+        }
+    } else if parse_fields::begins(line, b"fresh\t") {
+        Word::Fresh
+    } else {
+        Word::Other
+    }
 }
 
 // A command of a form that has no bytes.
@@ -30,21 +68,21 @@ fn plain(command: Command) -> Parsed
     Parsed { command, count: 0 }
 }
 
-// The fields behind the time, by the word's reader.
-fn read_fields(word: Word, time: Time, rest: &[u8], head: &mut [u8; FRAME_LENGTH]) -> Parsed
-    ensures { λ r. ⌜ Makes r (now (head .exit)) (ifCount (formOf word .count) (formOf word .call time) ([] ∷ [] ∷ parts tab (now (rest .entry)))) ⌝ }
+// The fields behind the time, by the form's reader.
+fn read_fields(form: Form, time: Time, rest: &[u8], head: &mut [u8; FRAME_LENGTH]) -> Parsed
+    ensures { λ r. ⌜ Makes r (now (head .exit)) (ifCount (rowOf form .count) (rowOf form .call time) ([] ∷ [] ∷ parts tab (now (rest .entry)))) ⌝ }
 {
-    match word {
-        Word::Tick => plain(parse_forms::tick(time, rest)),
-        Word::Packet => parse_forms::packet(time, rest, head),
-        Word::Ask => plain(parse_forms::ask(time, rest)),
-        Word::Drop => plain(parse_forms::drop(time, rest)),
+    match form {
+        Form::Tick => plain(parse_forms::tick(time, rest)),
+        Form::Packet => parse_forms::packet(time, rest, head),
+        Form::Ask => plain(parse_forms::ask(time, rest)),
+        Form::Drop => plain(parse_forms::drop(time, rest)),
     }
 }
 
 // The fields behind the word: the time first.
-fn read_timed(word: Word, rest: &[u8], head: &mut [u8; FRAME_LENGTH]) -> Parsed
-    ensures { λ r. ⌜ Makes r (now (head .exit)) (ifCount (formOf word .count) (timedCall (formOf word)) ([] ∷ parts tab (now (rest .entry)))) ⌝ }
+fn read_timed(form: Form, rest: &[u8], head: &mut [u8; FRAME_LENGTH]) -> Parsed
+    ensures { λ r. ⌜ Makes r (now (head .exit)) (ifCount (rowOf form .count) (timedCall (rowOf form)) ([] ∷ parts tab (now (rest .entry)))) ⌝ }
 {
     let first = parse_numbers::first_number(rest, TAB, LARGEST);
     let end = first.length;
@@ -53,7 +91,7 @@ fn read_timed(word: Word, rest: &[u8], head: &mut [u8; FRAME_LENGTH]) -> Parsed
         Reading::Malformed => plain(Command::Malformed),
         Reading::Number(time) => {
             if end < rest.len() {
-                read_fields(word, Time(time), parse_fields::behind(rest, end), head)
+                read_fields(form, Time(time), parse_fields::behind(rest, end), head)
             } else {
                 plain(Command::Malformed)
             }
@@ -61,24 +99,18 @@ fn read_timed(word: Word, rest: &[u8], head: &mut [u8; FRAME_LENGTH]) -> Parsed
     }
 }
 
-// The command of a line: of its first word, the most frequent first, and what stands behind the word's tab. The first bytes of a
-// packet go to the start of `head`.
+// The command of a line: what stands behind its first word is read by the word's form. The first bytes of a packet go to the
+// start of `head`.
 pub fn parse(line: &[u8], head: &mut [u8; FRAME_LENGTH]) -> Parsed
     ensures { λ r. ⌜ Makes r (now (head .exit)) (callOf (now (line .entry))) ⌝ }
 {
     if LONGEST_LINE < line.len() {
         plain(Command::Malformed)
-    } else if parse_fields::begins(line, b"tick\t") {
-        read_timed(Word::Tick, parse_fields::behind(line, 4), head)
-    } else if parse_fields::begins(line, b"packet\t") {
-        read_timed(Word::Packet, parse_fields::behind(line, 6), head)
-    } else if parse_fields::begins(line, b"ask\t") {
-        read_timed(Word::Ask, parse_fields::behind(line, 3), head)
-    } else if parse_fields::begins(line, b"drop\t") {
-        read_timed(Word::Drop, parse_fields::behind(line, 4), head)
-    } else if parse_fields::begins(line, b"fresh\t") {
-        plain(parse_forms::fresh(parse_fields::behind(line, 5)))
     } else {
-        plain(Command::Malformed)
+        match word_of(line) {
+            Word::Timed { form, length } => read_timed(form, parse_fields::behind(line, length), head),
+            Word::Fresh => plain(parse_forms::fresh(parse_fields::behind(line, 5))),
+            Word::Other => plain(Command::Malformed),
+        }
     }
 }

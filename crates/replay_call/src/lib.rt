@@ -45,7 +45,13 @@ fn put_answer(answer: Answer, sent: bool, frame: &[u8; FRAME_LENGTH], out: &mut 
 }
 
 // Any call, with the bytes of a packet, and its answer's text.
-pub fn perform(state: Interface, sound: bool, call: Call, bytes: &[u8], out: &mut [u8]) -> AnsweredLine
+pub fn perform(
+    state: Interface,
+    sound: bool,
+    call: Call,
+    bytes: &[u8],
+    out: &mut [u8],
+) -> AnsweredLine
     requires { ⌜ (sound ≡ isSound state) × (longestAnswer ≤ length (now out)) ⌝ }
     ensures { λ r. ⌜ Gives (answerTo state (some (made call (now (bytes .entry))))) (r .state) (r .written) (now (out .entry)) (now (out .exit)) ⌝ }
 {
