@@ -353,10 +353,11 @@ history-sound start begun (exchange ∷ earlier) h =
     subst (λ (s : Interface). isSound s ≡ true) (sym (h .0 .handedBack))
     (stays-sound (stateAfter start earlier) (exchange .call) (exchange .bytes) (exchange .lent) (history-sound start begun earlier (h .2)))
 
-pub always-sound : (setup : Setup) (before start : Interface) (answer : Answer) → Promised before (Call.Fresh setup) [] [] answer start [] →
+pub always-sound : (setup : Setup) (before start : Interface) (bytes lent out : List ℕ) (answer : Answer) →
+    Promised before (Call.Fresh setup) bytes lent answer start out →
     isAccepted (answerReport answer) ≡ true → (exchanges : List Exchange) → History start exchanges → isSound (stateAfter start exchanges) ≡ true
 unfolding refusalOf outcomeOf freshOutcome
-always-sound setup before start answer promised taken exchanges history =
-    let facts = fresh-accepted setup before start answer promised taken in
-    let begun : isSound start ≡ true = rw (facts .1) (accepted-sound before (Call.Fresh setup) [] 0 (facts .0)) in
+always-sound setup before start bytes lent out answer promised taken exchanges history =
+    let facts = fresh-accepted setup before start bytes lent out answer promised taken in
+    let begun : isSound start ≡ true = rw (facts .1) (accepted-sound before (Call.Fresh setup) bytes (length lent) (facts .0)) in
     history-sound start begun exchanges history

@@ -6,7 +6,7 @@ use mathlib.Core.List.{List, [], _∷_, map}
 use mathlib.Core.Option.{Option, none, some}
 use lib.Dec.{leb, eqb}
 use lib.ListN.{length}
-use Rattle.basis.specs.Answers.{Report, refused, accepted, Accepted, Sending, sendsNothing, sendsDue, sendsDefence, sendingOf}
+use Rattle.basis.specs.Answers.{Report, refused, accepted, Accepted, HandedOut, handsNothing, handsDue, handsDefence, handedOutBy}
 use Rattle.basis.specs.Frame.{frameOf}
 use Rattle.basis.specs.declared.Ipv4Address.{Ipv4Address}
 use Rattle.basis.specs.declared.Setup.{Setup}
@@ -138,16 +138,16 @@ markedLatest address m (c ∷ earlier) = cond (isOn address c) (marked m c ∷ e
 abbrev pub ticked : Time → Frame → Mark
 ticked t f = mark (cond (eqb (f .sender .ip .0) 0) aProbe anAnnouncement) t
 
-abbrev pub withTicked : Sending → Time → Frame → List Claim → List Claim
-withTicked sendsNothing t f claims = claims
-withTicked sendsDue t f claims = markedLatest (f .target .ip) (ticked t f) claims
-withTicked sendsDefence t f claims = markedLatest (f .target .ip) (ticked t f) claims
+abbrev pub withTicked : HandedOut → Time → Frame → List Claim → List Claim
+withTicked handsNothing t f claims = claims
+withTicked handsDue t f claims = markedLatest (f .target .ip) (ticked t f) claims
+withTicked handsDefence t f claims = markedLatest (f .target .ip) (ticked t f) claims
 
 -- "A packet's frame of kind defend is a defence, sent at the packet's time."
-abbrev pub withDefence : Sending → Time → Frame → List Claim → List Claim
-withDefence sendsNothing t f claims = claims
-withDefence sendsDue t f claims = claims
-withDefence sendsDefence t f claims = markedLatest (f .target .ip) (mark aDefence t) claims
+abbrev pub withDefence : HandedOut → Time → Frame → List Claim → List Claim
+withDefence handsNothing t f claims = claims
+withDefence handsDue t f claims = claims
+withDefence handsDefence t f claims = markedLatest (f .target .ip) (mark aDefence t) claims
 
 -- The claims after an accepted call, and after a history, the latest first. An accepted fresh begins another history, so it
 -- stands in none (`History` in Demand3.antt).
@@ -155,9 +155,9 @@ unfoldable pub claimsAfter : Setup → Call → List ℕ → Accepted → List �
 claimsAfter setup (Call.Fresh other) bytes answer out claims = []
 claimsAfter setup (Call.Ask t address policy draw) bytes answer out claims =
     record { address = address; policy = policy; slot = answer .slot; marks = [] } ∷ claims
-claimsAfter setup (Call.Tick t draw) bytes answer out claims = withTicked (sendingOf (answer .kind)) t (frameOf out) claims
+claimsAfter setup (Call.Tick t draw) bytes answer out claims = withTicked (handedOutBy (answer .kind)) t (frameOf out) claims
 claimsAfter setup (Call.Packet t) bytes answer out claims =
-    withDefence (sendingOf (answer .kind)) t (frameOf out) (map (struck setup t (frameOf bytes)) claims)
+    withDefence (handedOutBy (answer .kind)) t (frameOf out) (map (struck setup t (frameOf bytes)) claims)
 claimsAfter setup (Call.Drop t slot) bytes answer out claims = map (released setup t slot) claims
 
 -- Refused calls count for nothing.
