@@ -108,7 +108,11 @@ pub fn parse(line: &[u8], head: &mut [u8; FRAME_LENGTH]) -> Parsed
         plain(Command::Malformed)
     } else {
         match word_of(line) {
-            Word::Timed { form, length } => read_timed(form, parse_fields::behind(line, length), head),
+            Word::Timed { form, length } => read_timed(
+                form,
+                parse_fields::behind(line, length),
+                head,
+            ),
             Word::Fresh => plain(parse_forms::fresh(parse_fields::behind(line, 5))),
             Word::Other => plain(Command::Malformed),
         }
