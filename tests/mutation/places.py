@@ -7,7 +7,7 @@ ASSIGNS = {"=", "+=", "-=", "*=", "/=", "%="}
 
 class Places:
     """Stretches of a function's code, each with a label: the name bound, assigned or indexed, a field written out, a called function,
-    an arm's variant, or `if`, `while` and `match` for what stands between the word and the block, and `else` for the block."""
+    an arm's variant, or `if`, `while` and `match` for what stands between the word and the block (of `if let` too), and `else` for the block."""
 
     def __init__(self, source, function):
         self.source, self.tokens, self.pairs = source, source.tokens, source.pairs
@@ -26,7 +26,7 @@ class Places:
 
     def _read(self, i):
         text, before, after = (self.tokens[k].text for k in (i, i - 1, i + 1))
-        if text == "let":
+        if text == "let" and before not in ("if", "while"):
             name = i + 2 if after == "mut" else i + 1
             self._add(self.tokens[name].text, i, self.source.next_of(i, {";"}))
         elif text in ("if", "while", "match"):
@@ -57,5 +57,5 @@ class Places:
         first = i
         while self.tokens[first - 1].text not in (";", "{", "}"):
             first -= 1
-        if self.tokens[first].text != "let":
+        if self.tokens[first].text not in ("let", "if", "while"):
             self._add(self.tokens[first].text, first, self.source.next_of(i, {";"}))
