@@ -69,6 +69,7 @@ pub record Invocation : Type 0 where
   pub bytes : List ℕ
   pub lent : List ℕ
 
+-- Whether a call makes a new interface: the others are calls on a state.
 abbrev pub isFresh : Call → Bool
 isFresh (Call.Fresh setup) = true
 isFresh (Call.Ask time address policy draw) = false
