@@ -1,7 +1,11 @@
 """The mutants of a source: small wrong edits of its code, each one stretch of text replaced by another."""
 import re
-from names import Names
+from collections import Counter
 
+from names import Names
+from places import Places
+
+KINDS = ["operator", "operand", "constant", "branch"]
 COMPARE = {"<": ["<="], "<=": ["<", "=="], ">": [">="], ">=": [">", "=="], "==": ["!=", "<="], "!=": ["==", "<"]}
 ARITHMETIC = {"+": ["-", "*"], "-": ["+"], "*": ["+"], "/": ["*", "%"], "%": ["/"],
               "<<": [">>"], ">>": ["<<"], "&": ["|", "^"], "|": ["&", "^"], "^": ["|", "&"],
@@ -25,8 +29,10 @@ class Mutant:
         self.crate, self.path = source.crate, source.path
         self.old = source.text[start:end]
         line, column = source.place(start)
-        self.id = f"{self.crate}:{line}:{column}:{kind}:{short(self.old)}->{short(new)}"
+        self.swap = f"{short(self.old)}->{short(new)}"
+        self.id = f"{self.crate}:{line}:{column}:{kind}:{self.swap}"
         self.is_constant = False
+        self.places = set()
 
     def text(self):
         """The file with the edit."""
@@ -59,14 +65,26 @@ def mutants_of(source, declared):
             m.is_constant = True
         found += made
     for function in source.functions:
-        names = Names(source, declared, function)
-        found += Edits(source, declared, function.name, function.first, function.last, names).all()
+        names, places = Names(source, declared, function), Places(source, function)
+        made = Edits(source, declared, function.name, function.first, function.last, names).all()
+        for m in made:
+            m.places = places.around(m.start)
+        found += made
     unique = []
     for m in sorted(found, key=lambda m: (m.start, m.end)):
         if m.new != m.old and (m.start, m.end, m.new) not in seen:
             seen.add((m.start, m.end, m.new))
             unique.append(m)
+    number_alike(unique)
     return unique
+
+
+def number_alike(mutants):
+    """The edits of a function that read the same are told apart by a place `#1`, `#2` and so on, in the order of the text."""
+    counts = Counter()
+    for m in mutants:
+        counts[m.function, m.kind, m.swap] += 1
+        m.places.add(f"#{counts[m.function, m.kind, m.swap]}")
 
 
 class Edits:

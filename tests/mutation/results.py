@@ -1,12 +1,11 @@
-"""What was found: kept between runs, counted, and held to the explained survivors."""
+"""What was found: kept between runs, and counted."""
 import json
-import re
 from collections import Counter
 
+from mutants import KINDS
 from prove import kind_of
 
 OUTCOMES = ["no program", "same code", "refused", "seen", "survives"]
-KINDS = ["operator", "operand", "constant", "branch"]
 
 
 class Store:
@@ -32,54 +31,6 @@ class Store:
 
 def key_of(mutant):
     return f"{mutant.path.name} {mutant.start} {mutant.end} {mutant.new}"
-
-
-class Entry:
-    """An explained survivor: a line of a function, what it becomes (`...` stands for any text), and why that is the same program."""
-
-    def __init__(self, fields):
-        self.crate, self.function = fields["crate"], fields["function"]
-        self.old, self.new, self.why = fields["old"], fields["new"], fields["why"]
-
-    def covers(self, mutant):
-        old, new = mutant.lines()
-        pattern = ".*".join(re.escape(part) for part in self.new.split("..."))
-        return (self.crate, self.function, self.old) == (mutant.crate, mutant.function, old.strip()) and bool(re.fullmatch(pattern, new.strip()))
-
-    def __str__(self):
-        return f"{self.crate} {self.function}: {self.old} -> {self.new}"
-
-
-def read_entries(path):
-    entries, fields = [], {}
-    for number, line in enumerate([*path.read_text().splitlines(), ""], 1):
-        name, _, value = line.partition(":")
-        if line.startswith("#"):
-            continue
-        if line and name in ("crate", "function", "old", "new", "why") and name not in fields:
-            fields[name] = value.strip()
-        elif line:
-            raise SystemExit(f"mutation: {path.name}, line {number}: expected crate, function, old, new, why")
-        elif fields:
-            if len(fields) < 5:
-                raise SystemExit(f"mutation: {path.name}, line {number}: an entry has crate, function, old, new and why")
-            entries.append(Entry(fields))
-            fields = {}
-    return entries
-
-
-def explained(mutant, entries):
-    return next((e for e in entries if e.covers(mutant)), None)
-
-
-def stale(entries, mutants, found):
-    """The entries of which no mutant survives, among those whose mutants were all tried."""
-    crates = {m.crate for m in mutants}
-    for e in entries:
-        covered = [m for m in mutants if e.covers(m)]
-        if e.crate in crates and all(m in found for m in covered):
-            if not any(found[m][0] == "survives" for m in covered):
-                yield e
 
 
 def row(name, outcomes):

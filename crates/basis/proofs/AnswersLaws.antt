@@ -1,14 +1,17 @@
 -- A report says which answer was given: no two answers have the same numbers and values.
-use Prim.Native.Nat.{ℕ, _-_}
-use mathlib.Core.Path.{_≡_, refl, sym, ap, ap₂, _∙_}
+use Prim.Native.Nat.{ℕ, _-_, _≤_}
+use mathlib.Core.Path.{_≡_, refl, sym, subst, ap, ap₂, _∙_}
 use mathlib.Core.List.{List, [], _∷_}
-use mathlib.Core.Bool.{cond}
+use mathlib.Core.Bool.{Bool, true, false, cond, _&&_}
 use mathlib.Core.Option.{Option, none, some}
-use lib.ListN.{getD}
+use lib.Dec.{leb}
+use lib.ListN.{length, getD}
+use borrow.Author.Tests.{leb-true}
 use Rattle.basis.specs.Bytes.{sameBytes}
 use Rattle.basis.specs.Answers.{kindWord, slotOf, timeOf, Accepted, answerReport, refusalNumber, refused, accepted, reported, leaves}
 use Rattle.basis.specs.Frame.{readReport, writeReport}
 use Rattle.basis.specs.Clock.{ClockReport, clockReport}
+use Rattle.basis.proofs.BytesLaws.{and-both}
 use Rattle.basis.specs.declared.Refusal.{Refusal}
 use Rattle.basis.specs.declared.Refusal.the-variants.{StateNotSound, HardwareNotAllowed, TimeAboveRange, TimeBelowLatest, BufferTooShort, PacketTooShort, FrameUnknown, AddressNotAllowed, PolicyUnknown, AddressHeld, NoSlotFree, AskedTooSoon, SlotNotHeld, LineMalformed}
 use Rattle.basis.specs.declared.Kind.{Kind}
@@ -86,6 +89,10 @@ worded : List Kind → List ℕ → Kind
 worded [] word = Fresh
 worded (kind ∷ rest) word = cond (sameBytes word (kindWord kind)) kind (worded rest word)
 
+allOf : (Kind → Bool) → List Kind → Bool
+allOf test [] = true
+allOf test (kind ∷ rest) = test kind && allOf test rest
+
 worded-word : (k : Kind) → worded kinds (kindWord k) ≡ k
 unfolding kinds worded kindWord
 worded-word Fresh = refl
@@ -97,6 +104,30 @@ worded-word Defend = refl
 worded-word Lost = refl
 worded-word Kept = refl
 worded-word Dropped = refl
+
+-- A test that holds of each kind in the list holds of every kind.
+worded-holds : (test : Kind → Bool) → test Fresh ≡ true → (some-kinds : List Kind) → allOf test some-kinds ≡ true → (word : List ℕ) →
+    test (worded some-kinds word) ≡ true
+unfolding worded allOf
+worded-holds test first [] each word = first
+worded-holds test first (kind ∷ rest) each word =
+    let w = and-both (test kind) (allOf test rest) each in
+    go (sameBytes word (kindWord kind)) (w .0) (worded-holds test first rest (w .1) word)
+  where
+    go : (b : Bool) → test kind ≡ true → test (worded rest word) ≡ true → test (cond b kind (worded rest word)) ≡ true
+    go true here later = here
+    go false here later = later
+
+-- No kind's word is longer.
+abbrev pub longestKind : ℕ
+longestKind = 8
+
+pub kind-at-most : (kind : Kind) → length (kindWord kind) ≤ longestKind
+unfolding kinds allOf kindWord
+kind-at-most kind =
+    leb-true (length (kindWord kind)) longestKind
+    (subst (λ (k : Kind). leb (length (kindWord k)) longestKind ≡ true) (worded-word kind)
+    (worded-holds (λ (k : Kind). leb (length (kindWord k)) longestKind) refl kinds refl (kindWord kind)))
 
 pub word-tells : (j k : Kind) → kindWord j ≡ kindWord k → j ≡ k
 word-tells j k e = sym (worded-word j) ∙ ap (worded kinds) e ∙ worded-word k

@@ -65,17 +65,22 @@ kindWord Lost = 108 ∷ 111 ∷ 115 ∷ 116 ∷ []
 kindWord Kept = 107 ∷ 101 ∷ 112 ∷ 116 ∷ []
 kindWord Dropped = 100 ∷ 114 ∷ 111 ∷ 112 ∷ 112 ∷ 101 ∷ 100 ∷ []
 
--- The kinds whose frame is in the out buffer.
-abbrev pub hasFrame : Kind → Bool
-hasFrame Fresh = false
-hasFrame Taken = false
-hasFrame Nothing = false
-hasFrame Probe = true
-hasFrame Announce = true
-hasFrame Defend = true
-hasFrame Lost = false
-hasFrame Kept = false
-hasFrame Dropped = false
+-- What a call of each kind hands out, in the out buffer: nothing, a frame that was due, or a defence.
+pub data HandedOut : Type 0 where
+  handsNothing : HandedOut
+  handsDue : HandedOut
+  handsDefence : HandedOut
+
+abbrev pub handedOutBy : Kind → HandedOut
+handedOutBy Fresh = handsNothing
+handedOutBy Taken = handsNothing
+handedOutBy Nothing = handsNothing
+handedOutBy Probe = handsDue
+handedOutBy Announce = handsDue
+handedOutBy Defend = handsDefence
+handedOutBy Lost = handsNothing
+handedOutBy Kept = handsNothing
+handedOutBy Dropped = handsNothing
 
 -- "The slot concerned or none, and the smallest deadline left or none."
 abbrev pub slotOf : SlotNumber → Option ℕ

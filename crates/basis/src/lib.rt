@@ -85,7 +85,8 @@ pub struct Record {
     pub stage: Stage,
 }
 
-// What is chosen at fresh and kept: the own hardware address. It stands in a call (`Call`), so it holds no array.
+// What is chosen at fresh and kept: the own hardware address. It stands in a call, an enum, so it holds no
+// array: code over an enum that holds one would have to be proved by hand.
 pub struct Setup {
     pub hardware: HardwareAddress,
 }

@@ -68,7 +68,7 @@ pub record Sound (s : Interface) : Type 0 where
   pub chosen : isSoundSetup (s .setup) ≡ true
   pub inRange : s .latest .0 ≤ lastTime
   pub counted : s .conflicts ≤ timingOf (s .setup) .maxConflicts
-  pub requested : isPast (s .latest) (s .asked) ≡ true
+  pub askedPast : isPast (s .latest) (s .asked) ≡ true
   pub eachSound : all (isSoundRecord (timingOf (s .setup)) (s .latest)) (s .records) ≡ true
 
 pub sound : (s : Interface) → isSound s ≡ true → Sound s
@@ -88,7 +88,7 @@ sound s e =
       chosen = two .0;
       inRange = leb-true (s .latest .0) lastTime (two .1);
       counted = leb-true (s .conflicts) (timingOf (s .setup) .maxConflicts) (three .1);
-      requested = four .1;
+      askedPast = four .1;
       eachSound = five .1;
     }
 

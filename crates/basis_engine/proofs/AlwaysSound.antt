@@ -54,7 +54,7 @@ whole s steady once =
       steady .chosen,
       le-leb (s .latest .0) lastTime (steady .inRange),
       le-leb (s .conflicts) (timingOf (s .setup) .maxConflicts) (steady .counted),
-      steady .requested,
+      steady .askedPast,
       steady .eachSound,
       once,
     )
@@ -181,13 +181,13 @@ module _ (s : Interface) (t : Time) (admission : Admitted s t) where
   steady-with : (asked : Moment) (count : ℕ) (records : List Record) → count ≤ timingOf (s .setup) .maxConflicts → isPast t asked ≡ true → all (isSoundRecord (timingOf (s .setup)) t) records ≡ true →
       Sound (changed s t asked count records)
   steady-with asked count records few past each =
-      record { chosen = sound s (admission .sound) .chosen; inRange = admission .inRange; counted = few; requested = past; eachSound = each }
+      record { chosen = sound s (admission .sound) .chosen; inRange = admission .inRange; counted = few; askedPast = past; eachSound = each }
 
   few-conflicts : s .conflicts ≤ timingOf (s .setup) .maxConflicts
   few-conflicts = sound s (admission .sound) .counted
 
   asked-past : isPast t (s .asked) ≡ true
-  asked-past = past-later (s .latest) t (s .asked) (admission .notBefore) (sound s (admission .sound) .requested)
+  asked-past = past-later (s .latest) t (s .asked) (admission .notBefore) (sound s (admission .sound) .askedPast)
 
   steady-set : (count slot : ℕ) (new : Record) → count ≤ timingOf (s .setup) .maxConflicts → isSoundRecord (timingOf (s .setup)) t new ≡ true →
       Sound (changed s t (s .asked) count (set (s .records) slot new))
@@ -232,7 +232,7 @@ fresh-steady setup e =
       chosen = not-false (isSoundSetup setup) (passed 2 (not (isSoundSetup setup)) none e .0);
       inRange = omega arith;
       counted = omega arith;
-      requested = refl;
+      askedPast = refl;
       eachSound = refl;
     }
 
@@ -353,10 +353,11 @@ history-sound start begun (exchange ∷ earlier) h =
     subst (λ (s : Interface). isSound s ≡ true) (sym (h .0 .handedBack))
     (stays-sound (stateAfter start earlier) (exchange .call) (exchange .bytes) (exchange .lent) (history-sound start begun earlier (h .2)))
 
-pub always-sound : (setup : Setup) (before start : Interface) (answer : Answer) → Promised before (Call.Fresh setup) [] [] answer start [] →
+pub always-sound : (setup : Setup) (before start : Interface) (bytes lent out : List ℕ) (answer : Answer) →
+    Promised before (Call.Fresh setup) bytes lent answer start out →
     isAccepted (answerReport answer) ≡ true → (exchanges : List Exchange) → History start exchanges → isSound (stateAfter start exchanges) ≡ true
 unfolding refusalOf outcomeOf freshOutcome
-always-sound setup before start answer promised taken exchanges history =
-    let facts = fresh-accepted setup before start answer promised taken in
-    let begun : isSound start ≡ true = rw (facts .1) (accepted-sound before (Call.Fresh setup) [] 0 (facts .0)) in
+always-sound setup before start bytes lent out answer promised taken exchanges history =
+    let facts = fresh-accepted setup before start bytes lent out answer promised taken in
+    let begun : isSound start ≡ true = rw (facts .1) (accepted-sound before (Call.Fresh setup) bytes (length lent) (facts .0)) in
     history-sound start begun exchanges history

@@ -25,9 +25,9 @@ use Rattle.basis_engine.specs.Slots.{recordAt, any}
 use Rattle.basis_engine.specs.Interface.{holds, isUsableStage, newInterface}
 use Rattle.basis_engine.specs.Calls.{freshOutcome}
 use Rattle.basis_engine.specs.Refusals.{freshRefusal}
-use Rattle.basis_engine.specs.Machine.{Result, refusalOf, outcomeOf, resultAs, resultOf, Promised}
+use Rattle.basis_engine.specs.Machine.{isFresh, Result, refusalOf, outcomeOf, resultAs, resultOf, Promised}
 use Rattle.basis_engine.specs.Claims.{Event, Mark, Claim, isInUse, claimsBy, claimsOf, latestOn, asksBy, asksAfterTenth, conflictCount, mark, anAnnouncement, aDefence, timesOf, signNumber, isAny}
-use Rattle.basis_engine.specs.Demand3.{Exchange, stateAfter, isAccepted, isFresh, History, eventOf, events, stateLeft, plainMachine, resultIn, isUsableIn, isUsable, Each, WentThrough, LatestWentThrough, SendsFew, DefendsSeldom, acceptedOnly, CountForNothing, Theorem, invocationIn}
+use Rattle.basis_engine.specs.Demand3.{Exchange, stateAfter, isAccepted, History, eventOf, events, stateLeft, plainMachine, resultIn, isUsableIn, isUsable, Each, WentThrough, LatestWentThrough, SendsFew, DefendsSeldom, acceptedOnly, CountForNothing, Theorem, invocationIn}
 use Rattle.basis_engine.proofs.Rows.{timing-fits}
 use Rattle.basis_engine.proofs.SlotLaws.{any-fails, any-holds, any-slot}
 use Rattle.basis_engine.proofs.AskCase.{ask-linked}
@@ -117,7 +117,7 @@ in-use-through row policy conflict sent c same w =
       announcedAt = w .announcedAt;
       before = w .before;
       split = w .split;
-      threeProbes = w .through .number;
+      allProbes = w .through .number;
       probesSpaced = w .through .apart;
       announcedAfter = rw (last-delay row) at (w .through .due);
       undisturbed = untouched row policy (w .before) (w .through .only) .noConflicts;
@@ -268,20 +268,21 @@ fresh-linked setup =
       lastAsk = tt;
     }
 
-pub fresh-accepted : (setup : Setup) (before start : Interface) (answer : Answer) → Promised before (Call.Fresh setup) [] [] answer start [] →
+pub fresh-accepted : (setup : Setup) (before start : Interface) (bytes lent out : List ℕ) (answer : Answer) →
+    Promised before (Call.Fresh setup) bytes lent answer start out →
     isAccepted (answerReport answer) ≡ true → (freshRefusal setup ≡ none) × (start ≡ newInterface setup)
 unfolding resultOf refusalOf outcomeOf freshOutcome
-fresh-accepted setup before start answer promised taken = go (freshRefusal setup) refl (promised .answered) (promised .handedBack)
+fresh-accepted setup before start bytes lent out answer promised taken = go (freshRefusal setup) refl (promised .answered) (promised .handedBack)
   where
-    go : (refusal : Option ℕ) → freshRefusal setup ≡ refusal → answerReport answer ≡ resultAs refusal before [] (freshOutcome setup) .report →
-        start ≡ resultAs refusal before [] (freshOutcome setup) .state → (freshRefusal setup ≡ none) × (start ≡ newInterface setup)
+    go : (refusal : Option ℕ) → freshRefusal setup ≡ refusal → answerReport answer ≡ resultAs refusal before lent (freshOutcome setup) .report →
+        start ≡ resultAs refusal before lent (freshOutcome setup) .state → (freshRefusal setup ≡ none) × (start ≡ newInterface setup)
     go none e answered kept = (e, kept)
     go (some n) e answered kept = absurd (false≢true (rw answered at taken))
 
 -- The one claim.
 pub demand3 : Theorem
-demand3 setup before start answer promised taken exchanges history =
-    let same = fresh-accepted setup before start answer promised taken .1 in
+demand3 setup before start bytes lent out answer promised taken exchanges history =
+    let same = fresh-accepted setup before start bytes lent out answer promised taken .1 in
     let begun : Linked setup start [] [] = rw same (fresh-linked setup) in
     let linked = history-linked setup start begun exchanges history in
     let claims = claimsOf setup (events exchanges) in

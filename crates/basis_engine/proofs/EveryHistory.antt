@@ -24,8 +24,8 @@ use Rattle.basis.specs.declared.Call.the-variants as Call
 use Rattle.basis_engine.specs.Slots.{recordAt, lowest, isNone}
 use Rattle.basis_engine.specs.Interface.{isAllowed, isPolicy, isFree, isHeld, isSound, isSoundSetup}
 use Rattle.basis_engine.specs.Refusals.{stateAndTime, freshRefusal, isTooSoon, askRefusal, tickRefusal, packetRefusal, dropRefusal}
-use Rattle.basis_engine.specs.Machine.{refusalOf, outcomeOf, acceptedAs, resultOf, Promised, Invocation}
-use Rattle.basis_engine.specs.Demand3.{isFresh, Exchange, stateAfter, isAccepted, isNextFresh, History, Each, invocationIn}
+use Rattle.basis_engine.specs.Machine.{isFresh, refusalOf, outcomeOf, acceptedAs, resultOf, Promised, Invocation}
+use Rattle.basis_engine.specs.Demand3.{Exchange, stateAfter, isAccepted, isNextFresh, History, Each, invocationIn}
 
 -- Each number in the table is that of a refusal.
 record Numbered (n : ℕ) : Type 0 where

@@ -34,7 +34,7 @@ use Rattle.basis_engine.proofs.Stories.{untouched, Bounded, probing-bou
 use Rattle.basis_engine.proofs.Links.{Story, Agrees, Away, Here, Link}
 use Rattle.basis_engine.specs.Timing.{Timing, timingOf}
 
--- Where there were asks after the tenth conflict, the count is at least 10, and the latest of them is the latest request.
+-- Where there were asks after the tenth conflict, the count is at least 10, and the latest of them is the latest ask.
 abbrev pub LastAsk : (row : Timing) → List ℕ → ℕ → Moment → Type 0
 LastAsk row [] count asked = Unit {0}
 LastAsk row (t ∷ earlier) count Never = ⊥

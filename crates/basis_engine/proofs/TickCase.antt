@@ -20,7 +20,7 @@ use Rattle.basis.specs.declared.Stage.{Stage}
 use Rattle.basis.specs.declared.Stage.the-variants.{Free, Probing, Announced, Settled}
 use Rattle.basis.specs.declared.Record.{Record}
 use Rattle.basis.specs.declared.Interface.{Interface}
-use Rattle.basis.specs.Answers.{hasFrame}
+use Rattle.basis.specs.Answers.{handedOutBy, handsDue}
 use Rattle.basis.specs.declared.Call.the-variants as Call
 use Rattle.basis_engine.specs.Timing.{after, timingOf, Timing}
 use Rattle.basis_engine.specs.Slots.{recordAt, withStage}
@@ -41,7 +41,7 @@ use Rattle.basis_engine.proofs.Invariant.{Linked, LinkedAfter, by-addre
 record Served (row : Timing) (address : Ipv4Address) (policy : ℕ) (t : Time) (marks : List Mark) (due : DueFrame) (stage : Stage) : Type 0 where
   frame : Frame
   sends : due .frame ≡ some frame
-  counts : hasFrame (due .kind) ≡ true
+  counts : handedOutBy (due .kind) ≡ handsDue
   target : frame .target .ip ≡ address
   reads : (out : List ℕ) → frameOf (framePut frame out) ≡ frame
   story : Story row policy stage (ticked t frame ∷ marks)

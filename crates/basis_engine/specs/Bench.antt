@@ -22,8 +22,8 @@ use Rattle.basis.specs.declared.Interface.{Interface}
 use Rattle.basis.specs.declared.Kind.{Kind}
 use Rattle.basis.specs.declared.Kind.the-variants.{Fresh, Taken, Nothing, Probe, Announce, Defend, Lost, Kept}
 use Rattle.basis_engine.specs.Timing.{rfc5227, wait}
-use Rattle.basis_engine.specs.Slots.{freeRecord}
-use Rattle.basis_engine.specs.Interface.{zeros}
+use Rattle.basis_engine.specs.Slots.{putAt}
+use Rattle.basis_engine.specs.Interface.{newInterface, zeros, changed}
 use Rattle.basis_engine.specs.Machine.{Result, resultOf, Invocation}
 use Rattle.basis_engine.specs.Claims.{Event, mark, aProbe, anAnnouncement, timesOf, Claim, claimsOf}
 
@@ -80,16 +80,11 @@ another = record { 0 = 0x02000000000b }
 abbrev pub ipv4 : Ipv4Address
 ipv4 = record { 0 = 0xc0000207 }
 
--- An interface that holds 192.0.2.7 in slot 0, with this policy, stage, count and request.
+-- An interface that holds 192.0.2.7 in slot 0, with this policy, stage, count and time of the latest ask.
 abbrev pub holding : ℕ → Stage → ℕ → Moment → Interface
 holding policy stage count asked =
-    record {
-      setup = setup;
-      latest = at 10_000;
-      asked = asked;
-      conflicts = count;
-      records = record { address = ipv4; policy = policy; stage = stage } ∷ freeRecord ∷ freeRecord ∷ freeRecord ∷ [];
-    }
+    changed (newInterface setup) (at 10_000) asked count
+    (putAt (newInterface setup .records) (some 0) (record { address = ipv4; policy = policy; stage = stage }))
 
 -- Another machine's announcement of our address, at this time.
 abbrev pub conflictAt : ℕ → Invocation
@@ -128,13 +123,9 @@ cases =
     }
     -- W9 "count 10, request at 100,000: an ask at 159,999 is 12, at 160,000 taken"
     ∷ record {
-      rules = answers (record {
-        setup = setup;
-        latest = at 100_000;
-        asked = At (at 100_000);
-        conflicts = 10;
-        records = freeRecord ∷ freeRecord ∷ freeRecord ∷ freeRecord ∷ [];
-      }) (bare (Call.Ask (at 159_999) ipv4 1 0) ∷ bare (Call.Ask (at 160_000) ipv4 1 0) ∷ []);
+      rules = answers
+          (changed (newInterface setup) (at 100_000) (At (at 100_000)) 10 (newInterface setup .records))
+          (bare (Call.Ask (at 159_999) ipv4 1 0) ∷ bare (Call.Ask (at 160_000) ipv4 1 0) ∷ []);
       paper = refusal 12 ∷ kind Taken ∷ [];
     }
     -- W10 "our own echoed probe: none"

@@ -81,7 +81,8 @@ dueFrame row setup r = dueFrameAt row setup (r .address) (r .stage)
 
 -- Tick, what its sending leaves. "First or second probe: next deadline time + gap. Third: time + 2,000. Then the first
 -- announcement, deadline time + 2,000; then the second, settled. All are counted from the time of the call." The delay after a
--- probe goes by how many are sent then, this one included (reading defence-keeps-deadline).
+-- probe goes by how many are sent then, this one included; a settled record keeps the last conflict
+-- (reading defence-keeps-deadline).
 abbrev pub delay : Timing → ℕ → ℕ → ℕ
 delay row sent draw = cond (ltb sent (row .probeNum)) (gap row draw) (row .announceWait)
 

@@ -6,7 +6,7 @@ use mathlib.Core.List.{List, [], _∷_, map}
 use mathlib.Core.Option.{Option, none, some}
 use lib.Dec.{leb, eqb}
 use lib.ListN.{length}
-use Rattle.basis.specs.Answers.{Report, refused, accepted, Accepted, hasFrame}
+use Rattle.basis.specs.Answers.{Report, refused, accepted, Accepted, HandedOut, handsNothing, handsDue, handsDefence, handedOutBy}
 use Rattle.basis.specs.Frame.{frameOf}
 use Rattle.basis.specs.declared.Ipv4Address.{Ipv4Address}
 use Rattle.basis.specs.declared.Setup.{Setup}
@@ -16,8 +16,6 @@ use Rattle.basis.specs.declared.Time.{Time}
 use Rattle.basis.specs.declared.Moment.{Moment}
 use Rattle.basis.specs.declared.Moment.the-variants.{Never, At}
 use Rattle.basis.specs.declared.Frame.{Frame}
-use Rattle.basis.specs.declared.Kind.{Kind}
-use Rattle.basis.specs.declared.Kind.the-variants.{Fresh, Taken, Nothing, Probe, Announce, Defend, Lost, Kept, Dropped}
 use Rattle.basis_engine.specs.Timing.{Timing, timingOf, isWithin}
 use Rattle.basis_engine.specs.Slots.{isJust}
 use Rattle.basis_engine.specs.Interface.{isOurs}
@@ -140,23 +138,16 @@ markedLatest address m (c ∷ earlier) = cond (isOn address c) (marked m c ∷ e
 abbrev pub ticked : Time → Frame → Mark
 ticked t f = mark (cond (eqb (f .sender .ip .0) 0) aProbe anAnnouncement) t
 
-abbrev pub withTicked : Kind → Time → Frame → List Claim → List Claim
-withTicked kind t f claims = cond (hasFrame kind) (markedLatest (f .target .ip) (ticked t f) claims) claims
+abbrev pub withTicked : HandedOut → Time → Frame → List Claim → List Claim
+withTicked handsNothing t f claims = claims
+withTicked handsDue t f claims = markedLatest (f .target .ip) (ticked t f) claims
+withTicked handsDefence t f claims = markedLatest (f .target .ip) (ticked t f) claims
 
 -- "A packet's frame of kind defend is a defence, sent at the packet's time."
-abbrev pub isDefence : Kind → Bool
-isDefence Fresh = false
-isDefence Taken = false
-isDefence Nothing = false
-isDefence Probe = false
-isDefence Announce = false
-isDefence Defend = true
-isDefence Lost = false
-isDefence Kept = false
-isDefence Dropped = false
-
-abbrev pub withDefence : Kind → Time → Frame → List Claim → List Claim
-withDefence kind t f claims = cond (isDefence kind) (markedLatest (f .target .ip) (mark aDefence t) claims) claims
+abbrev pub withDefence : HandedOut → Time → Frame → List Claim → List Claim
+withDefence handsNothing t f claims = claims
+withDefence handsDue t f claims = claims
+withDefence handsDefence t f claims = markedLatest (f .target .ip) (mark aDefence t) claims
 
 -- The claims after an accepted call, and after a history, the latest first. An accepted fresh begins another history, so it
 -- stands in none (`History` in Demand3.antt).
@@ -164,9 +155,9 @@ unfoldable pub claimsAfter : Setup → Call → List ℕ → Accepted → List �
 claimsAfter setup (Call.Fresh other) bytes answer out claims = []
 claimsAfter setup (Call.Ask t address policy draw) bytes answer out claims =
     record { address = address; policy = policy; slot = answer .slot; marks = [] } ∷ claims
-claimsAfter setup (Call.Tick t draw) bytes answer out claims = withTicked (answer .kind) t (frameOf out) claims
+claimsAfter setup (Call.Tick t draw) bytes answer out claims = withTicked (handedOutBy (answer .kind)) t (frameOf out) claims
 claimsAfter setup (Call.Packet t) bytes answer out claims =
-    withDefence (answer .kind) t (frameOf out) (map (struck setup t (frameOf bytes)) claims)
+    withDefence (handedOutBy (answer .kind)) t (frameOf out) (map (struck setup t (frameOf bytes)) claims)
 claimsAfter setup (Call.Drop t slot) bytes answer out claims = map (released setup t slot) claims
 
 -- Refused calls count for nothing.

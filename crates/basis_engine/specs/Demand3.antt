@@ -19,7 +19,7 @@ use Rattle.basis.specs.declared.Answer.{Answer}
 use Rattle.basis_engine.specs.Timing.{Timing, timingOf}
 use Rattle.basis_engine.specs.Slots.{any}
 use Rattle.basis_engine.specs.Interface.{holds, isUsableStage, newInterface}
-use Rattle.basis_engine.specs.Machine.{Result, resultOf, Invocation, Promised}
+use Rattle.basis_engine.specs.Machine.{Result, resultOf, Invocation, Promised, isFresh}
 use Rattle.basis_engine.specs.Claims.{Event, Mark, mark, aProbe, anAnnouncement, aDefence, aConflict, timesOf, Claim, isOpen, claimsOf, latestOn, asksAfterTenth}
 
 -- A call of a history: its arguments, the bytes of a packet and the out buffer that were lent to it, its answer, the state that it
@@ -41,13 +41,6 @@ stateAfter start (exchange ∷ earlier) = exchange .state
 abbrev pub isAccepted : Report Accepted → Bool
 isAccepted (refused n) = false
 isAccepted (accepted answer) = true
-
-abbrev pub isFresh : Call → Bool
-isFresh (Call.Fresh setup) = true
-isFresh (Call.Ask time address policy draw) = false
-isFresh (Call.Tick time draw) = false
-isFresh (Call.Packet time) = false
-isFresh (Call.Drop time slot) = false
 
 abbrev pub isNextFresh : Exchange → Bool
 isNextFresh exchange = isFresh (exchange .call) && isAccepted (answerReport (exchange .answer))
@@ -110,7 +103,7 @@ pub record WentThrough (row : Timing) (c : Claim) : Type 0 where
   pub announcedAt : Time
   pub before : List Mark
   pub split : c .marks ≡ since ++ (mark anAnnouncement announcedAt ∷ before)
-  pub threeProbes : length (timesOf aProbe before) ≡ row .probeNum
+  pub allProbes : length (timesOf aProbe before) ≡ row .probeNum
   pub probesSpaced : Spaced (row .probeMin) (timesOf aProbe before)
   pub announcedAfter : IsAfter (row .announceWait) (timesOf aProbe before) (announcedAt .0)
   pub undisturbed : timesOf aConflict before ≡ []
@@ -177,6 +170,6 @@ pub record Demand3 (setup : Setup) (start : Interface) (exchanges : List Exchang
 -- The theorem: from every accepted fresh, over every history.
 abbrev pub Theorem : Type 0
 Theorem =
-    (setup : Setup) (before start : Interface) (answer : Answer) →
-    Promised before (Call.Fresh setup) [] [] answer start [] → isAccepted (answerReport answer) ≡ true →
+    (setup : Setup) (before start : Interface) (bytes lent out : List ℕ) (answer : Answer) →
+    Promised before (Call.Fresh setup) bytes lent answer start out → isAccepted (answerReport answer) ≡ true →
     (exchanges : List Exchange) → History start exchanges → Demand3 setup start exchanges

@@ -3,6 +3,7 @@
 use Prim.Native.Nat.{ℕ}
 use mathlib.Core.Path.{_≡_}
 use mathlib.Core.List.{List}
+use mathlib.Core.Bool.{Bool, true, false}
 use mathlib.Core.Option.{Option, none, some}
 use lib.ListN.{length}
 use Rattle.basis.specs.Answers.{Report, Accepted, reported, leaves, answerReport}
@@ -68,8 +69,16 @@ pub record Invocation : Type 0 where
   pub bytes : List ℕ
   pub lent : List ℕ
 
+abbrev pub isFresh : Call → Bool
+isFresh (Call.Fresh setup) = true
+isFresh (Call.Ask time address policy draw) = false
+isFresh (Call.Tick time draw) = false
+isFresh (Call.Packet time) = false
+isFresh (Call.Drop time slot) = false
+
 -- The promise of fresh, ask, tick, packet and drop: handed this state, these arguments and this memory, the answer, the state
--- handed back and the out buffer afterwards are the machine's. Fresh, ask and drop are lent nothing.
+-- handed back and the out buffer afterwards are the machine's. To the public calls of fresh, ask and drop nothing is lent; what is
+-- lent to such a call all the same is left as it was.
 pub record Promised (before : Interface) (call : Call) (bytes lent : List ℕ) (answer : Answer) (after : Interface) (out : List ℕ) : Type 0 where
   pub answered : answerReport answer ≡ resultOf before call bytes lent .report
   pub handedBack : after ≡ resultOf before call bytes lent .state

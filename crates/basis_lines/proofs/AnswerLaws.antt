@@ -13,6 +13,7 @@ use Rattle.basis.specs.declared.Frame.{Frame}
 use Rattle.basis.specs.declared.Kind.{Kind}
 use Rattle.basis.specs.declared.Kind.the-variants.{Fresh, Taken, Nothing, Probe, Announce, Defend, Lost, Kept, Dropped}
 use Rattle.basis.specs.declared.Interface.{Interface}
+use Rattle.basis.proofs.AnswersLaws.{kind-at-most}
 use Rattle.basis.proofs.FrameLaws.{frame-length}
 use Rattle.basis_engine.specs.Interface.{isSound}
 use Rattle.basis_engine.specs.Machine.{outcomeOf, resultOf, Invocation}
@@ -43,18 +44,6 @@ unfolding bytes hexBytes
 no-frame-reads = refl
 
 -- No answer is longer than `longestAnswer`, for any bytes and any state.
-kind-at-most : (kind : Kind) → length (kindWord kind) ≤ 8
-unfolding kindWord
-kind-at-most Fresh = omega arith
-kind-at-most Taken = omega arith
-kind-at-most Nothing = omega arith
-kind-at-most Probe = omega arith
-kind-at-most Announce = omega arith
-kind-at-most Defend = omega arith
-kind-at-most Lost = omega arith
-kind-at-most Kept = omega arith
-kind-at-most Dropped = omega arith
-
 number-at-most : (n : Option ℕ) → length (numberText n) ≤ 20
 number-at-most none = omega arith
 number-at-most (some n) = decimal-at-most n

@@ -168,7 +168,7 @@ record Fair (st : Stream) (begun input : List ℕ) (room : ℕ) (w : Work) (left
   goes : (more : List ℕ) → toCome st begun (input ++ more) ≡ w .text ++ toCome (w .stream) [] (left ++ more)
   ends : w .waiting ≡ true → toCome (w .stream) [] left ≡ finish (w .stream) left
   small : w .waiting ≡ true → length left ≤ longestLine
-  actions : longestAnswer ≤ room → w .waiting ≡ false → 1 ≤ w .used
+  goes-on : longestAnswer ≤ room → w .waiting ≡ false → 1 ≤ w .used
   within : w .used ≤ length begun + length input
   fits : LongestAnswer → length (w .text) ≤ room
 
@@ -184,7 +184,7 @@ module _ (st : Stream) (begun : List ℕ) (room : ℕ) (told : Begun st begun) w
         goes = λ more. too-long (st .state) (st .skipping) begun [] more e;
         ends = λ h. refl;
         small = λ h. omega arith;
-        actions = λ h k. absurd (true≢false k);
+        goes-on = λ h k. absurd (true≢false k);
         within = omega arith;
         fits = λ longest. omega arith;
       })
@@ -194,7 +194,7 @@ module _ (st : Stream) (begun : List ℕ) (room : ℕ) (told : Begun st begun) w
         goes = λ more. sym (told more);
         ends = λ h. rw append-nil at (told []);
         small = λ h. ltb-false longestLine (length begun) (neither (st .skipping) (ltb longestLine (length begun)) e);
-        actions = λ h k. absurd (true≢false k);
+        goes-on = λ h k. absurd (true≢false k);
         within = omega arith;
         fits = λ longest. omega arith;
       })
@@ -207,7 +207,7 @@ module _ (st : Stream) (begun : List ℕ) (b : ℕ) (input : List ℕ) (room : �
         goes = λ more. sym (told (b ∷ input ++ more)) ∙ ap (toCome st []) (sym (append-assoc begun (b ∷ input) more));
         ends = λ h. absurd (false≢true h);
         small = λ h. absurd (false≢true h);
-        actions = λ h k. absurd (omega (arith, ltb-true room _ full));
+        goes-on = λ h k. absurd (omega (arith, ltb-true room _ full));
         within = omega arith;
         fits = λ longest. omega arith;
       }
@@ -220,7 +220,7 @@ module _ (st : Stream) (begun : List ℕ) (b : ℕ) (input : List ℕ) (room : �
         goes = λ more. toCome-more st begun b (input ++ more) e ∙ later .goes more;
         ends = later .ends;
         small = later .small;
-        actions = later .actions;
+        goes-on = later .goes-on;
         within = omega (arith, length-append begun (b ∷ []), later .within);
         fits = later .fits;
       })
@@ -238,7 +238,7 @@ module _ (st : Stream) (begun : List ℕ) (b : ℕ) (input : List ℕ) (room : �
             ∙ sym (append-assoc (endedAnswer st begun .text) (w .text) (toCome (w .stream) [] (drop (w .used) input ++ more)));
         ends = next .ends;
         small = next .small;
-        actions = λ h k. omega arith;
+        goes-on = λ h k. omega arith;
         within = omega (arith, next .within);
         fits =
             λ longest.
@@ -330,7 +330,7 @@ streams =
           λ actions room h.
           waiting-end (after begin actions) room h ∙ sym (actions-whole begin actions) ∙ toCome-records zeros [] (arrived actions);
       memory = λ st input room. work-fair st input room .small;
-      progress = λ st input room. work-fair st input room .actions;
+      progress = λ st input room. work-fair st input room .goes-on;
     }
 
 -- With room for an answer, works bring every replay to where it waits: so `whole` speaks of every list of actions.
@@ -348,7 +348,7 @@ catches-up-in (suc most) g room enough few =
     cases true e later = (0, e)
     cases false e later =
         let w = work-fair (g .stream) (g .unread) room in
-        let n = later (rw length-drop (omega (arith, w .actions enough e, w .within))) in
+        let n = later (rw length-drop (omega (arith, w .goes-on enough e, w .within))) in
         (suc (n .0), n .1)
 
 pub catches-up : (g : Going) (room : ℕ) → longestAnswer ≤ room →

@@ -82,7 +82,7 @@ work st input room = workAfter st [] input room
 abbrev pub finish : Stream → List ℕ → List ℕ
 finish st left = cond (st .skipping || not (isEmpty left)) (malformed (st .state) .text) []
 
--- The bytes from one place up to another acted to the start of a buffer, the rest untouched; all of it where they are no places
+-- The bytes from one place up to another moved to the start of a buffer, the rest untouched; all of it where they are no places
 -- of the buffer. And how many they are.
 abbrev pub isPart : ℕ → ℕ → List ℕ → Bool
 isPart from to buffer = leb from to && leb to (length buffer)

@@ -10,7 +10,6 @@ use Rattle.basis.specs.Times.{lastTime}
 use Rattle.basis.specs.Answers.{refusalNumber, _if_else_, slotOf}
 use Rattle.basis.specs.declared.Ipv4Address.{Ipv4Address}
 use Rattle.basis.specs.declared.Time.{Time}
-use Rattle.basis.specs.declared.Moment.the-variants.{At}
 use Rattle.basis.specs.declared.Stage.the-variants.{Probing}
 use Rattle.basis.specs.declared.SlotNumber.{SlotNumber}
 use Rattle.basis.specs.declared.Record.{Record}
@@ -28,6 +27,8 @@ use Rattle.engine_admission.specs.declared.Check.{Check}
 use Rattle.engine_admission.specs.declared.Check.the-variants.{Passed, Refused}
 use Rattle.engine_admission.specs.Rows.{checkOf, orElse}
 use Rattle.engine_admission.proofs.Rows.{row-joins, admits}
+use Rattle.engine_state.specs.declared.Change.{Change}
+use Rattle.engine_state.specs.Changes.{changeAt, asking}
 use Rattle.engine_decisions.specs.declared.Outgoing.the-variants.{Nothing}
 use Rattle.engine_decisions.specs.declared.Verdict.the-variants.{Accepted}
 use Rattle.engine_decisions.specs.declared.Decision.{Decision}
@@ -94,16 +95,13 @@ module _ (s : Interface) (time : Time) (address : Ipv4Address) (policy draw : �
 
     pub ask-takes : check ≡ Passed → (slot : SlotNumber) → slotOf slot ≡ lowest isFree (s .records) →
         (claim : Record) → claim ≡ newClaim rfc5227 time address policy draw →
+        (taken : Change) → taken ≡ changeAt s time slot claim → (change : Change) → change ≡ asking taken →
         Decided s (askRefusal s time address policy draw) (askOutcome s time address policy draw)
-        (record {
-          verdict = Accepted Taken;
-          change = record { latest = time; asked = At time; conflicts = s .conflicts; slot = slot; held = claim };
-          frame = Nothing;
-        })
+        (record { verdict = Accepted Taken; change = change; frame = Nothing })
     unfolding askOutcome
-    ask-takes e slot l claim c =
+    ask-takes e slot l claim c taken t change is =
         decided s (askOutcome s time address policy draw) _ (askRefusal s time address policy draw) check told e
-        (record { accepts = refl; concerns = l; changes = rw (l, c); sends = refl })
+        (rw (is, t) (record { accepts = refl; concerns = l; changes = rw (l, c); sends = refl }))
 
 pub ruleset soon-ends = (soon-limited, soon-unlimited)
 

@@ -3,7 +3,6 @@ use basis::Interface;
 use basis::Ipv4Address;
 use basis::Kind;
 use basis::MAX_CONFLICTS;
-use basis::Moment;
 use basis::RATE_LIMIT_INTERVAL;
 use basis::Record;
 use basis::Refusal;
@@ -11,7 +10,6 @@ use basis::SlotNumber;
 use basis::Stage;
 use basis::Time;
 use engine_admission::Check;
-use engine_decisions::Change;
 use engine_decisions::Decision;
 use engine_decisions::Outgoing;
 use engine_decisions::Verdict;
@@ -108,15 +106,11 @@ pub fn ask(
             let records = state.records;
             let slot = engine_slots::free_slot(records);
             let claim = new_claim(time, address, policy, draw);
+            let taken = engine_state::change_at(state, time, slot, claim);
+            let change = engine_state::asking(taken);
             Decision {
                 verdict: Verdict::Accepted(Kind::Taken),
-                change: Change {
-                    latest: time,
-                    asked: Moment::At(time),
-                    conflicts: state.conflicts,
-                    slot,
-                    held: claim,
-                },
+                change,
                 frame: Outgoing::Nothing,
             }
         }

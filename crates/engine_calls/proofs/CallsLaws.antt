@@ -34,8 +34,7 @@ use Rattle.basis_engine.specs.Deadlines.{dueSlot}
 use Rattle.basis_engine.specs.Conflicts.{isConflict, resolution, defence}
 use Rattle.basis_engine.specs.Refusals.{stateAndTime, askRefusal, tickRefusal, packetRefusal, dropRefusal}
 use Rattle.basis_engine.specs.Calls.{dueFrameAt, dueFrame, serve, meet, askOutcome, tickOutcome, packetOutcome, dropOutcome, freshOutcome}
-use Rattle.basis_engine.specs.Machine.{refusalOf, outcomeOf, handedOut, acceptedAs, resultOf, Promised}
-use Rattle.basis_engine.specs.Demand3.{isFresh}
+use Rattle.basis_engine.specs.Machine.{isFresh, refusalOf, outcomeOf, handedOut, acceptedAs, resultOf, Promised}
 use Rattle.basis_engine.proofs.Acceptance.{roomy}
 use Rattle.engine_frames.proofs.FramesLaws.{probe-put, announcement-put}
 use Rattle.engine_admission.specs.declared.Check.{Check}

@@ -10,8 +10,7 @@ ghost use mathlib.Core.Bool.{false};
 ghost use lib.ListN.{length};
 ghost use Rattle.basis.specs.Answers.{leaves};
 ghost use Rattle.basis_engine.specs.Interface.{isSound};
-ghost use Rattle.basis_engine.specs.Machine.{refusalOf, outcomeOf, Promised};
-ghost use Rattle.basis_engine.specs.Demand3.{isFresh};
+ghost use Rattle.basis_engine.specs.Machine.{isFresh, refusalOf, outcomeOf, Promised};
 ghost use Rattle.engine_decisions.specs.Decisions.{frameIn, Decided};
 ghost use Rattle.engine_calls.specs.Performed.{isSent};
 

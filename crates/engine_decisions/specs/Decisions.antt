@@ -9,15 +9,13 @@ use Rattle.basis.specs.declared.Frame.{Frame}
 use Rattle.basis.specs.declared.Record.{Record}
 use Rattle.basis.specs.declared.Interface.{Interface}
 use Rattle.basis.specs.declared.Called.{Called}
-use Rattle.basis_engine.specs.Slots.{putAt}
 use Rattle.basis_engine.specs.Deadlines.{smallestDeadline}
 use Rattle.basis_engine.specs.Calls.{Outcome}
-use Rattle.basis_engine.specs.Interface.{changed}
+use Rattle.engine_state.specs.Changes.{changedBy}
 use Rattle.engine_decisions.specs.declared.Outgoing.{Outgoing}
 use Rattle.engine_decisions.specs.declared.Outgoing.the-variants.{Nothing, Send}
 use Rattle.engine_decisions.specs.declared.Verdict.{Verdict}
 use Rattle.engine_decisions.specs.declared.Verdict.the-variants as Verdict
-use Rattle.engine_decisions.specs.declared.Change.{Change}
 use Rattle.engine_decisions.specs.declared.Decision.{Decision}
 
 -- The frame that goes out, if there is one, and the out buffer after its write.
@@ -28,11 +26,6 @@ frameIn (Send frame) = some frame
 abbrev pub sentOut : Option Frame → List ℕ → List ℕ
 sentOut none out = out
 sentOut (some frame) out = writeOut frame out
-
--- The state that a change leaves.
-abbrev pub changedBy : Interface → Change → Interface
-changedBy s change =
-    changed s (change .latest) (change .asked) (change .conflicts) (putAt (s .records) (slotOf (change .slot)) (change .held))
 
 -- What a verdict reports of a call that leaves these records.
 abbrev pub answerWith : Verdict → Option ℕ → List Record → Report Accepted

@@ -5,15 +5,15 @@ use basis::Called;
 use basis::Frame;
 use basis::Interface;
 use basis::Kind;
-use basis::Moment;
 use basis::Record;
 use basis::Refusal;
 use basis::SlotNumber;
 use basis::Time;
+use engine_state::Change;
 ghost use mathlib.Core.Path.{_≡_};
 ghost use Rattle.basis.specs.Answers.{refusalNumber, slotOf, answerReport};
 ghost use Rattle.basis_engine.specs.Calls as Calls;
-ghost use Rattle.engine_decisions.specs.Decisions.{frameIn, sentOut, changedBy, answerWith, Decides, Declines, CarriedOut};
+ghost use Rattle.engine_decisions.specs.Decisions.{frameIn, sentOut, answerWith, Decides, Declines, CarriedOut};
 
 // A frame that goes out, or none.
 pub enum Outgoing {
@@ -25,15 +25,6 @@ pub enum Outgoing {
 pub enum Verdict {
     Refused(Refusal),
     Accepted(Kind),
-}
-
-// What becomes of a state: its latest time, the time of its latest ask, its count, and the record in the slot concerned, if there is one.
-pub struct Change {
-    pub latest: Time,
-    pub asked: Moment,
-    pub conflicts: u8,
-    pub slot: SlotNumber,
-    pub held: Record,
 }
 
 // What a call comes to, before anything is changed. The slot that it reports is the one that changes.
@@ -48,17 +39,11 @@ pub fn refused(refusal: Refusal, state: Interface) -> Decision
     ensures { λ r. ⌜ Declines state (refusalNumber refusal) r ⌝ }
 {
     let latest = state.latest;
-    let asked = state.asked;
     let held = engine_slots::free_record();
+    let change = engine_state::change_at(state, latest, SlotNumber::Absent, held);
     Decision {
         verdict: Verdict::Refused(refusal),
-        change: Change {
-            latest,
-            asked,
-            conflicts: state.conflicts,
-            slot: SlotNumber::Absent,
-            held,
-        },
+        change,
         frame: Outgoing::Nothing,
     }
 }
@@ -67,32 +52,13 @@ pub fn refused(refusal: Refusal, state: Interface) -> Decision
 pub fn nothing(state: Interface, time: Time) -> Decision
     ensures { λ r. ⌜ Decides state (Calls.nothing state time) r ⌝ }
 {
-    let asked = state.asked;
     let held = engine_slots::free_record();
+    let change = engine_state::change_at(state, time, SlotNumber::Absent, held);
     Decision {
         verdict: Verdict::Accepted(Kind::Nothing),
-        change: Change {
-            latest: time,
-            asked,
-            conflicts: state.conflicts,
-            slot: SlotNumber::Absent,
-            held,
-        },
+        change,
         frame: Outgoing::Nothing,
     }
-}
-
-// The state that a change leaves.
-fn changed(state: Interface, change: Change) -> Interface
-    ensures { λ r. ⌜ r ≡ changedBy state change ⌝ }
-{
-    let before = state.records;
-    let latest = change.latest;
-    let asked = change.asked;
-    let slot = change.slot;
-    let held = change.held;
-    let records = engine_slots::put_at(before, slot, held);
-    engine_state::changed(state, latest, asked, change.conflicts, records)
 }
 
 // The answer to a call that leaves these records.
@@ -129,7 +95,7 @@ pub fn carry_out(state: Interface, decision: Decision, out: &mut [u8]) -> Called
     let frame = decision.frame;
     let slot = change.slot;
     hand_out(frame, out);
-    let new = changed(state, change);
+    let new = engine_state::changed(state, change);
     let records = new.records;
     let answer = answer(verdict, slot, records);
     Called { answer, state: new }

@@ -33,6 +33,8 @@ use Rattle.engine_admission.specs.declared.Check.{Check}
 use Rattle.engine_admission.specs.declared.Check.the-variants as Check
 use Rattle.engine_admission.specs.Rows.{checkOf, orElse}
 use Rattle.engine_admission.proofs.Rows.{room-rows, room-passed}
+use Rattle.engine_state.specs.declared.Change.{Change}
+use Rattle.engine_state.specs.Changes.{changeAt, counting}
 use Rattle.engine_decisions.specs.declared.Outgoing.{Outgoing}
 use Rattle.engine_decisions.specs.declared.Verdict.the-variants.{Accepted}
 use Rattle.engine_decisions.specs.declared.Decision.{Decision}
@@ -67,14 +69,10 @@ pub is-resolution : (s : Interface) (time : Time) (slot : ℕ) (held : Record) (
     (kind : Kind) → kind ≡ resolutionKind chosen → (count : ℕ) → count ≡ countUp rfc5227 (s .conflicts) →
     (new : Record) → new ≡ recordAfter chosen time held →
     (frame : Outgoing) → frameIn frame ≡ defence (s .setup) held chosen →
-    Decides s (resolve s time slot held chosen)
-    (record {
-      verdict = Accepted kind;
-      change = record { latest = time; asked = s .asked; conflicts = count; slot = Slot slot; held = new };
-      frame = frame;
-    })
-is-resolution s time slot held chosen kind k count c new n frame f =
-    record { accepts = rw k; concerns = refl; changes = rw (c, n); sends = f }
+    (seen : Change) → seen ≡ changeAt s time (Slot slot) new → (change : Change) → change ≡ counting seen count →
+    Decides s (resolve s time slot held chosen) (record { verdict = Accepted kind; change = change; frame = frame })
+is-resolution s time slot held chosen kind k count c new n frame f seen e change is =
+    rw (is, e) (record { accepts = rw k; concerns = refl; changes = rw (c, n); sends = f })
 
 module _
     (s : Interface) (time : Time) (d : Decision) (f : Frame)

@@ -9,7 +9,6 @@ use basis::Setup;
 use basis::SlotNumber;
 use basis::Time;
 use engine_admission::Check;
-use engine_decisions::Change;
 use engine_decisions::Decision;
 use engine_decisions::Outgoing;
 use engine_decisions::Verdict;
@@ -57,19 +56,15 @@ fn resolve(state: Interface, time: Time, slot: u64, held: Record, chosen: Resolu
     ensures { λ r. ⌜ Decides state (Call.resolve state time slot held chosen) r ⌝ }
 {
     let setup = state.setup;
-    let asked = state.asked;
     let kind = engine_resolution::resolution_kind(chosen);
     let after = engine_resolution::record_after(chosen, time, held);
     let frame = defence(setup, held, chosen);
+    let count = count_up(state.conflicts);
+    let seen = engine_state::change_at(state, time, SlotNumber::Slot(slot), after);
+    let change = engine_state::counting(seen, count);
     Decision {
         verdict: Verdict::Accepted(kind),
-        change: Change {
-            latest: time,
-            asked,
-            conflicts: count_up(state.conflicts),
-            slot: SlotNumber::Slot(slot),
-            held: after,
-        },
+        change,
         frame,
     }
 }

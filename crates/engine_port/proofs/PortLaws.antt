@@ -30,6 +30,8 @@ use Rattle.engine_admission.specs.declared.Check.{Check}
 use Rattle.engine_admission.specs.declared.Check.the-variants.{Passed, Refused}
 use Rattle.engine_admission.specs.Rows.{checkOf, orElse}
 use Rattle.engine_admission.proofs.Rows.{admits}
+use Rattle.engine_state.specs.declared.Change.{Change}
+use Rattle.engine_state.specs.Changes.{changeAt}
 use Rattle.engine_decisions.specs.declared.Outgoing.the-variants.{Nothing}
 use Rattle.engine_decisions.specs.declared.Verdict.the-variants.{Accepted}
 use Rattle.engine_decisions.specs.declared.Decision.{Decision}
@@ -72,16 +74,12 @@ module _
       Decided s (dropRefusal s time slot) (dropOutcome s time slot) d
   drop-refused d = declined s (dropOutcome s time slot) d (dropRefusal s time slot) check told
 
-  pub drop-frees : check ≡ Passed → (free : Record) → free ≡ freeRecord →
+  pub drop-frees : check ≡ Passed → (free : Record) → free ≡ freeRecord → (change : Change) → change ≡ changeAt s time (Slot slot) free →
       Decided s (dropRefusal s time slot) (dropOutcome s time slot)
-      (record {
-        verdict = Accepted Dropped;
-        change = record { latest = time; asked = s .asked; conflicts = s .conflicts; slot = Slot slot; held = free };
-        frame = Nothing;
-      })
+      (record { verdict = Accepted Dropped; change = change; frame = Nothing })
   unfolding dropOutcome
-  drop-frees e free f =
+  drop-frees e free f change c =
       decided s (dropOutcome s time slot) _ (dropRefusal s time slot) check told e
-      (record { accepts = refl; concerns = refl; changes = rw f; sends = refl })
+      (rw (c, f) (record { accepts = refl; concerns = refl; changes = refl; sends = refl }))
 
 pub ruleset drop-ends = (drop-refused, drop-frees)

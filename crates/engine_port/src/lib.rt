@@ -10,7 +10,6 @@ use basis::Setup;
 use basis::SlotNumber;
 use basis::Time;
 use engine_admission::Check;
-use engine_decisions::Change;
 use engine_decisions::Decision;
 use engine_decisions::Outgoing;
 use engine_decisions::Verdict;
@@ -64,7 +63,6 @@ pub fn drop(state: Interface, admitted: Check, time: Time, slot: u64) -> Decisio
     requires { ⌜ checkOf admitted ≡ stateAndTime state time none ⌝ }
     ensures { λ r. ⌜ Decided state (dropRefusal state time slot) (dropOutcome state time slot) r ⌝ }
 {
-    let asked = state.asked;
     let records = state.records;
     let vacant = is_vacant(records, slot);
     let check = engine_admission::row(admitted, Refusal::SlotNotHeld, vacant);
@@ -72,15 +70,10 @@ pub fn drop(state: Interface, admitted: Check, time: Time, slot: u64) -> Decisio
         Check::Refused(refusal) => engine_decisions::refused(refusal, state),
         Check::Passed => {
             let free = engine_slots::free_record();
+            let change = engine_state::change_at(state, time, SlotNumber::Slot(slot), free);
             Decision {
                 verdict: Verdict::Accepted(Kind::Dropped),
-                change: Change {
-                    latest: time,
-                    asked,
-                    conflicts: state.conflicts,
-                    slot: SlotNumber::Slot(slot),
-                    held: free,
-                },
+                change,
                 frame: Outgoing::Nothing,
             }
         }

@@ -3,7 +3,7 @@ use Prim.Native.Nat.{ℕ, zero, suc, _≤_, _<_}
 use mathlib.Core.Path.{_≡_, refl, sym, ap, _∙_}
 use mathlib.Core.Bool.{Bool, false, cond}
 use mathlib.Core.List.{List, [], _∷_}
-use mathlib.Core.Option.{Option, none, some}
+use mathlib.Core.Option.{Option}
 use native.Mathlib.Omega.{arith}
 use lib.Dec.{eqb}
 use lib.ListN.{length, getD, set, List·getD-eq-default}
@@ -83,11 +83,6 @@ pub slot-read : (records : List Record) → length records ≡ 4 → (missing : 
     first ≡ recordAt records n
 slot-read records four missing n above fourth third second first free e f g h =
     rw (h, g, f, e, free) (one-chosen _ _ _ _ n ∙ ap (λ (rs : List Record). recordAt rs n) (four-records records four missing))
-
--- From the highest slot down, each that held has the last word.
-pub lowest-of : (first second third fourth : Bool) (a b c d : Option ℕ) → a ≡ cond fourth (some 3) none → b ≡ cond third (some 2) a →
-    c ≡ cond second (some 1) b → d ≡ cond first (some 0) c → d ≡ lowestOf 0 (first ∷ second ∷ third ∷ fourth ∷ [])
-lowest-of first second third fourth a b c d e f g h = rw (h, g, f, e)
 
 -- A test of each of the four, and the lowest slot of which it held.
 tested-four : (test : Record → Bool) (n : ℕ) (a b c d : Record) →

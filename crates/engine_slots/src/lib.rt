@@ -6,7 +6,6 @@ use basis::Stage;
 ghost use mathlib.Core.Path.{_≡_};
 ghost use mathlib.Core.Bool.{cond};
 ghost use mathlib.Core.List.{[], _∷_};
-ghost use mathlib.Core.Option.{some};
 ghost use lib.Dec.{eqb};
 ghost use lib.ListN.{drop};
 ghost use Rattle.basis.specs.Answers.{slotOf};
@@ -79,21 +78,21 @@ pub fn is_free(stage: Stage) -> bool
     }
 }
 
-// The slot if a test of it held, else the lowest above it of which it did.
-fn lower(held: bool, slot: u64, above: SlotNumber) -> SlotNumber
-    ensures { λ r. ⌜ slotOf r ≡ cond held (some slot) (slotOf above) ⌝ }
-{
-    if held { SlotNumber::Slot(slot) } else { above }
-}
-
 // The lowest slot of which a test held, by the tests of slots 0 to 3.
 pub fn lowest(first: bool, second: bool, third: bool, fourth: bool) -> SlotNumber
     ensures { λ r. ⌜ slotOf r ≡ lowestOf 0 (first ∷ second ∷ third ∷ fourth ∷ []) ⌝ }
 {
-    let best = lower(fourth, 3, SlotNumber::Absent);
-    let best = lower(third, 2, best);
-    let best = lower(second, 1, best);
-    lower(first, 0, best)
+    if first {
+        SlotNumber::Slot(0)
+    } else if second {
+        SlotNumber::Slot(1)
+    } else if third {
+        SlotNumber::Slot(2)
+    } else if fourth {
+        SlotNumber::Slot(3)
+    } else {
+        SlotNumber::Absent
+    }
 }
 
 // Whether a slot with this record is free.

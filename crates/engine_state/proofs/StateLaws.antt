@@ -4,9 +4,12 @@ use mathlib.Core.Path.{_≡_, sym, ap, _∙_}
 use mathlib.Core.List.{List, [], _∷_}
 use lib.ListN.{length, getD}
 use Rattle.basis.specs.declared.Interface.{Interface}
-use Rattle.basis_engine.specs.Slots.{freeRecord}
+use Rattle.basis.specs.Answers.{slotOf}
+use Rattle.basis_engine.specs.Slots.{freeRecord, putAt}
 use Rattle.basis_engine.specs.Interface.{newInterface, changed}
 use Rattle.engine_slots.proofs.SlotsLaws.{four-records}
+use Rattle.engine_state.specs.declared.Change.{Change}
+use Rattle.engine_state.specs.Changes.{changedBy}
 use Rattle.basis.specs.declared.Moment.{Moment}
 use Rattle.basis.specs.declared.Moment.the-variants.{Never, At}
 use Rattle.basis.specs.declared.Record.{Record}
@@ -54,3 +57,8 @@ slots-copied from four missing first second third fourth e f g h = rw (e, f, g, 
 pub interface-copied : (from : Interface) (asked : Moment) → asked ≡ from .asked → (records : List Record) → records ≡ from .records →
     (copy : Interface) → copy ≡ changed from (from .latest) asked (from .conflicts) records → copy ≡ from
 interface-copied from asked e records f copy told = rw (told, e, f)
+
+pub change-made : (s : Interface) (change : Change) (records : List Record) →
+    records ≡ putAt (s .records) (slotOf (change .slot)) (change .held) →
+    (new : Interface) → new ≡ changed s (change .latest) (change .asked) (change .conflicts) records → new ≡ changedBy s change
+change-made s change records e new n = rw (n, e)

@@ -22,6 +22,8 @@ use Rattle.engine_admission.specs.declared.Check.{Check}
 use Rattle.engine_admission.specs.declared.Check.the-variants.{Passed, Refused}
 use Rattle.engine_admission.specs.Rows.{checkOf, orElse}
 use Rattle.engine_admission.proofs.Rows.{room-last, room-passed}
+use Rattle.engine_state.specs.declared.Change.{Change}
+use Rattle.engine_state.specs.Changes.{changeAt}
 use Rattle.engine_decisions.specs.declared.Verdict.the-variants.{Accepted}
 use Rattle.engine_decisions.specs.declared.Decision.{Decision}
 use Rattle.engine_decisions.specs.Decisions.{Decides, Declines, Decided}
@@ -33,20 +35,10 @@ module _ (s : Interface) (time : Time) (draw : ℕ) where
   -- `claim` is the slot's record, `due` the frame that is due of it, and `stage` what its sending leaves.
   pub slot-served : (slot : ℕ) (claim : Record) → claim ≡ recordAt (s .records) slot →
       (due : Due) → dueOf due ≡ dueFrame rfc5227 (s .setup) claim → (stage : Stage) → stage ≡ stageAfter rfc5227 time draw (claim .stage) →
-      Decides s (serve s time draw (some slot))
-      (record {
-        verdict = Accepted (due .kind);
-        change = record {
-          latest = time;
-          asked = s .asked;
-          conflicts = s .conflicts;
-          slot = Slot slot;
-          held = withStage claim stage;
-        };
-        frame = due .frame;
-      })
-  slot-served slot claim c due told stage after =
-      rw (← c, ← told, ← after) (record { accepts = refl; concerns = refl; changes = refl; sends = refl })
+      (change : Change) → change ≡ changeAt s time (Slot slot) (withStage claim stage) →
+      Decides s (serve s time draw (some slot)) (record { verdict = Accepted (due .kind); change = change; frame = due .frame })
+  slot-served slot claim c due told stage after change is =
+      rw (← c, ← told, ← after, is) (record { accepts = refl; concerns = refl; changes = refl; sends = refl })
 
   -- `admitted` is what the rows 1, 3 and 4 gave, and `check` what came of them and of the room.
   module _

@@ -4,7 +4,6 @@ use basis::Record;
 use basis::SlotNumber;
 use basis::Time;
 use engine_admission::Check;
-use engine_decisions::Change;
 use engine_decisions::Decision;
 use engine_decisions::Verdict;
 ghost use mathlib.Core.Path.{_≡_};
@@ -23,7 +22,6 @@ fn serve(state: Interface, time: Time, draw: u32, slot: u64) -> Decision
     ensures { λ r. ⌜ Decides state (Call.serve state time draw (some slot)) r ⌝ }
 {
     let setup = state.setup;
-    let asked = state.asked;
     let records = state.records;
     let claim = engine_slots::record_at(records, slot);
     let due = engine_due::due_frame(setup, claim);
@@ -32,19 +30,15 @@ fn serve(state: Interface, time: Time, draw: u32, slot: u64) -> Decision
     let address = claim.address;
     let before = claim.stage;
     let stage = engine_due::stage_after(time, draw, before);
+    let held = Record {
+        address,
+        policy: claim.policy,
+        stage,
+    };
+    let change = engine_state::change_at(state, time, SlotNumber::Slot(slot), held);
     Decision {
         verdict: Verdict::Accepted(kind),
-        change: Change {
-            latest: time,
-            asked,
-            conflicts: state.conflicts,
-            slot: SlotNumber::Slot(slot),
-            held: Record {
-                address,
-                policy: claim.policy,
-                stage,
-            },
-        },
+        change,
         frame,
     }
 }

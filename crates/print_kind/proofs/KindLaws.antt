@@ -2,12 +2,12 @@
 use Prim.Native.Nat.{ℕ, _+_, _≤_}
 use mathlib.Core.Path.{_≡_, refl, ap, _∙_}
 use mathlib.Core.List.{List, _∷_, _++_}
-use lib.ListN.{length}
+use lib.ListN.{length, length-append}
 use lib.Seq.{sets}
-use lib.Dec.{lit≤}
+use native.Mathlib.Omega.{arith}
+use Rattle.basis.proofs.AnswersLaws.{kind-at-most}
 use Rattle.basis.specs.Answers.{kindWord}
 use Rattle.basis.specs.declared.Kind.{Kind}
-use Rattle.basis.specs.declared.Kind.the-variants.{Fresh, Taken, Nothing, Probe, Announce, Defend, Lost, Kept, Dropped}
 use Rattle.basis_lines.specs.Fields.{tab}
 use Rattle.basis_lines.specs.Answers.{okWord}
 use Rattle.print_digits.specs.Put.{Put}
@@ -19,16 +19,7 @@ put-as {at = at} {old = old} e h p =
     record { bytes = p .bytes ∙ ap (sets old at) e; place = p .place ∙ ap (λ (l : List ℕ). at + length l) e; within = h }
 
 kind-within : (kind : Kind) → length (okWord ++ (tab ∷ kindWord kind)) ≤ 11
-unfolding kindWord
-kind-within Fresh = lit≤ tt
-kind-within Taken = lit≤ tt
-kind-within Nothing = lit≤ tt
-kind-within Probe = lit≤ tt
-kind-within Announce = lit≤ tt
-kind-within Defend = lit≤ tt
-kind-within Lost = lit≤ tt
-kind-within Kept = lit≤ tt
-kind-within Dropped = lit≤ tt
+kind-within kind = simp length-append (omega (arith, kind-at-most kind))
 
 pub kind-put : {kind same : Kind} {m at next : ℕ} {old new : List ℕ} → kind ≡ same → Put (okWord ++ (tab ∷ kindWord same)) m at old new next →
     Put (okWord ++ (tab ∷ kindWord kind)) 11 at old new next

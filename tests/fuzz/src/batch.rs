@@ -1,5 +1,7 @@
 //! One input for both programs: several histories, and how it arrives.
 
+use twin::{LINE_MAX, Refusal};
+
 use crate::coverage::Coverage;
 use crate::generator::Generator;
 use crate::places::Part;
@@ -43,7 +45,9 @@ impl Batch {
             Vec::new()
         };
         count_pieces(&mut coverage, &pieces);
-        coverage.add(Part::Cuts, 10, many_answers(&input, &pieces));
+        let many = many_answers(&input, &pieces);
+        let name = "over 262,144 bytes of answers to 69,632 bytes of input";
+        coverage.add(Part::Cuts, name, many);
         Batch {
             input,
             pieces,
@@ -70,23 +74,23 @@ fn fill(generator: &mut Generator) {
 /// The last line: ended, or unended and in the form, or not, or too long.
 fn end(generator: &mut Generator, number: u64) {
     let malformed = number % 3 == 2;
-    while generator.answers.ends_with(b"refused\t14\n") != malformed {
+    while (generator.answer == Err(Refusal::LineNotInForm)) != malformed {
         if malformed {
             generator.broken_line();
         } else {
             generator.line();
         }
     }
-    let row = match number % 6 {
-        0 | 3 => return generator.coverage.hit(Part::Cuts, 5),
-        1 | 4 => 6,
-        2 => 7,
-        _ => 8,
+    let name = match number % 6 {
+        0 | 3 => return generator.coverage.meet(Part::Cuts, "last lines ended"),
+        1 | 4 => "last lines unended, in the form",
+        2 => "last lines unended, malformed",
+        _ => "last lines unended, too long",
     };
-    generator.coverage.hit(Part::Cuts, row);
+    generator.coverage.meet(Part::Cuts, name);
     generator.input.pop();
-    if row == 8 {
-        let length = generator.random.between(4097, 70_000) as usize;
+    if number % 6 == 5 {
+        let length = generator.random.between(LINE_MAX as u64 + 1, 70_000) as usize;
         generator.input.extend(std::iter::repeat_n(b'7', length));
     }
 }
@@ -126,8 +130,8 @@ fn count_pieces(coverage: &mut Coverage, pieces: &[usize]) {
     if pieces.is_empty() {
         return;
     }
-    coverage.hit(Part::Cuts, 0);
-    coverage.add(Part::Cuts, 1, pieces.len() as u64);
+    coverage.meet(Part::Cuts, "inputs in pieces");
+    coverage.add(Part::Cuts, "pieces", pieces.len() as u64);
     let single = pieces.iter().filter(|piece| **piece == 1).count();
-    coverage.add(Part::Cuts, 2, single as u64);
+    coverage.add(Part::Cuts, "pieces of 1 byte", single as u64);
 }

@@ -1,17 +1,10 @@
-//! The generator's own book of a history: what it asked for, and how far each
-//! claim has come by the kinds that were answered. It steers and counts; no
-//! answer is judged by it.
+//! How far a history has come: the twin's state, and what the state doesn't
+//! keep of the conflicts before it. It steers and counts; no answer is judged
+//! by it.
 
-use crate::answer::{Answer, Kind};
-use crate::call::{Address, Call, Hardware};
+use twin::{Answer, Interface, Kind, Record, SLOTS, Stage, Time};
 
-/// The last time in range.
-pub const RANGE_END: u64 = (1 << 48) - 1;
-
-/// Stages: 0 to 3 probes sent, then these.
-pub const ANNOUNCED: usize = 4;
-pub const SETTLED: usize = 5;
-pub const FREED: usize = 6;
+/// The stages; one that probes stands at the number of probes sent.
 pub const STAGES: [&str; 7] = [
     "probing 0",
     "probing 1",
@@ -21,145 +14,108 @@ pub const STAGES: [&str; 7] = [
     "settled",
     "freed",
 ];
+pub const ANNOUNCED: usize = 4;
+pub const SETTLED: usize = 5;
 
+/// Where the stage stands in `STAGES`.
+pub fn stage_number(stage: Stage) -> usize {
+    match stage {
+        Stage::Probing { sent, .. } => usize::from(sent),
+        Stage::Announced { .. } => ANNOUNCED,
+        Stage::Settled { .. } => SETTLED,
+        Stage::Free => 6,
+    }
+}
+
+/// A claim that a packet can be about.
 #[derive(Clone, Copy, Debug)]
-pub struct Record {
-    pub address: Address,
-    pub policy: u64,
-    pub stage: usize,
-    pub deadline: Option<u64>,
-    /// The last conflict in use.
+pub struct Claim {
+    pub slot: usize,
+    /// Once the claim has ended its stage is free; the rest stays.
+    pub record: Record,
+    /// The last conflict in use that did not end it.
     pub conflict: Option<Conflict>,
 }
 
 #[derive(Clone, Copy, Debug)]
 pub struct Conflict {
-    pub time: u64,
+    pub time: Time,
     /// What was answered.
     pub kind: Kind,
-    /// The stage in which it came.
+    /// The number of the stage in which it came.
     pub stage: usize,
 }
 
-#[derive(Clone, Debug, Default)]
+#[derive(Clone, Debug)]
 pub struct Book {
-    /// None before the first accepted fresh.
-    pub own: Option<Hardware>,
-    pub latest: u64,
-    pub request: Option<u64>,
-    pub conflicts: u32,
-    /// The same without an end at 10.
-    pub all_conflicts: u64,
-    pub slots: [Option<Record>; 4],
-    /// The record freed last, in stage `FREED`.
-    pub freed: Option<Record>,
-    /// The time of the last conflict in each slot, also in an earlier use.
-    pub quarrels: [Option<u64>; 4],
+    /// All zeros before the first accepted fresh.
+    pub state: Interface,
+    /// The conflicts since the fresh, without an end at 10.
+    pub conflicts: u64,
+    /// The last conflict in each slot, also in an earlier use.
+    pub last: [Option<Conflict>; SLOTS],
+    /// The claim that ended last.
+    pub ended: Option<Claim>,
 }
 
 impl Book {
-    pub fn held(&self) -> impl Iterator<Item = &Record> {
-        self.slots.iter().flatten()
+    pub fn new(state: Interface) -> Book {
+        Book {
+            state,
+            conflicts: 0,
+            last: [None; SLOTS],
+            ended: None,
+        }
     }
 
-    pub fn holds(&self, address: Address) -> bool {
-        self.held().any(|record| record.address == address)
+    /// Whether a fresh was accepted.
+    pub fn has_begun(&self) -> bool {
+        self.state.is_sound()
     }
 
-    pub fn deadlines(&self) -> impl Iterator<Item = u64> {
-        self.held().filter_map(|record| record.deadline)
+    /// The claims that are open.
+    pub fn claims(&self) -> impl Iterator<Item = Claim> {
+        let held = |slot: &usize| self.state.slots[*slot].is_held();
+        (0..SLOTS).filter(held).map(|slot| self.claim(slot))
     }
 
-    /// The record that is served first.
-    pub fn first_due(&self) -> Option<&Record> {
-        self.held()
-            .filter(|record| record.deadline.is_some())
-            .min_by_key(|record| record.deadline)
+    fn claim(&self, slot: usize) -> Claim {
+        let record = self.state.slots[slot];
+        let seen = record.stage.conflict().is_some();
+        Claim {
+            slot,
+            record,
+            conflict: self.last[slot].filter(|_| seen),
+        }
     }
 
-    pub fn next_deadline(&self) -> Option<u64> {
-        self.deadlines().min()
-    }
-
-    /// Takes down an answered call.
-    pub fn note(&mut self, call: &Call, answer: Answer) {
-        let Answer::Accepted { kind, slot, .. } = answer else {
+    /// Takes down an accepted call and the state that it made.
+    pub fn note(&mut self, answer: Answer, state: &Interface) {
+        if answer.kind == Kind::Fresh {
+            *self = Book::new(*state);
             return;
-        };
-        if let Call::Fresh { hardware } = call {
-            *self = Book {
-                own: Some(*hardware),
-                ..Book::default()
+        }
+        if let Some(slot) = answer.slot {
+            self.note_slot(answer.kind, slot, state.latest);
+        }
+        self.state = *state;
+    }
+
+    /// The state is still the one before the call.
+    fn note_slot(&mut self, kind: Kind, slot: usize, time: Time) {
+        let claim = self.claim(slot);
+        if kind.is_conflict() {
+            let stage = stage_number(claim.record.stage);
+            self.last[slot] = Some(Conflict { time, kind, stage });
+            self.conflicts += 1;
+        }
+        if matches!(kind, Kind::Lost | Kind::Dropped) {
+            let stage = Stage::Free;
+            let record = Record {
+                stage,
+                ..claim.record
             };
-            return;
+            self.ended = Some(Claim { record, ..claim });
         }
-        self.latest = call.time().unwrap_or(self.latest);
-        if let Some(slot) = slot {
-            self.note_slot(call, kind, slot);
-        }
-    }
-
-    fn note_slot(&mut self, call: &Call, kind: Kind, slot: usize) {
-        if matches!(kind, Kind::Defend | Kind::Kept | Kind::Lost) {
-            self.conflicts = (self.conflicts + 1).min(10);
-            self.all_conflicts += 1;
-            self.quarrels[slot] = Some(self.latest);
-        }
-        match (kind, call) {
-            (
-                Kind::Taken,
-                Call::Ask {
-                    time,
-                    address,
-                    policy,
-                    draw,
-                },
-            ) => {
-                self.request = Some(*time);
-                let deadline = Some(time + u64::from(draw % 1001));
-                let (address, policy) = (*address, *policy);
-                self.slots[slot] = Some(Record {
-                    address,
-                    policy,
-                    stage: 0,
-                    deadline,
-                    conflict: None,
-                });
-            }
-            (Kind::Probe | Kind::Announce, Call::Tick { time, draw }) => {
-                if let Some(record) = &mut self.slots[slot] {
-                    record.advance(*time, *draw);
-                }
-            }
-            (Kind::Defend | Kind::Kept, _) => {
-                if let Some(record) = &mut self.slots[slot] {
-                    let (time, stage) = (self.latest, record.stage);
-                    record.conflict = Some(Conflict { time, kind, stage });
-                }
-            }
-            _ => self.free(slot),
-        }
-    }
-
-    fn free(&mut self, slot: usize) {
-        if let Some(record) = self.slots[slot].take() {
-            self.freed = Some(Record {
-                stage: FREED,
-                deadline: None,
-                ..record
-            });
-        }
-    }
-}
-
-impl Record {
-    /// One frame further.
-    fn advance(&mut self, time: u64, draw: u32) {
-        self.stage = (self.stage + 1).min(SETTLED);
-        self.deadline = match self.stage {
-            1 | 2 => Some(time + 1000 + u64::from(draw % 1001)),
-            3 | ANNOUNCED => Some(time + 2000),
-            _ => None,
-        };
     }
 }

@@ -1,18 +1,9 @@
-//! The places that a run is meant to reach, and how often it met each.
+//! How often a run met each of the places.
 
 use std::fmt::Write;
 
-use crate::answer::Kind;
 use crate::book::STAGES;
-use crate::call::Call;
-use crate::meeting::Meeting;
-use crate::mutate::MUTATIONS;
-use crate::places::{
-    BEFORE, BEFORE_INTERVALS, CLOCK, CUTS, DEADLINES, FRESHES, INTERVALS, LATENESS,
-    OTHER_INTERVALS, OVERDUE, PACKETS, POLICIES, Part, RATE, REFUSALS, REFUSALS_TITLE, TIMES,
-};
-use crate::reasons::PAIRS;
-use crate::values::{ADDRESSES, DRAWS};
+use crate::places::{self, Part};
 
 #[derive(Clone)]
 pub struct Table {
@@ -34,48 +25,29 @@ impl Default for Coverage {
 
 impl Coverage {
     pub fn new() -> Coverage {
-        let kinds = Kind::ALL.map(|(_, name)| name);
-        let meetings = cross(&POLICIES, &Meeting::ALL.map(|(_, name)| name));
-        let mut intervals = cross(&BEFORE_INTERVALS, &INTERVALS);
-        intervals.extend(OTHER_INTERVALS.map(String::from));
-        let mut times = cross(&Call::WORDS[1..], &TIMES);
-        times.extend(DEADLINES.map(String::from));
-        times.extend(CLOCK.map(String::from));
-        let draws = cross(&["ask", "tick"], &DRAWS);
-        let addresses = ADDRESSES.map(|[a, b, c, d]| format!("{a}.{b}.{c}.{d}"));
-        let broken: Vec<&str> = MUTATIONS.iter().map(|mutation| mutation.name).collect();
-        let tables = vec![
-            table("Kinds", kinds),
-            table(REFUSALS_TITLE, REFUSALS),
-            table("Two refusals at once", PAIRS.iter().map(pair)),
-            table(
-                "Packets by policy, meaning and stage",
-                cross(&meetings, &STAGES),
-            ),
-            table("Conflicts apart, in ms", intervals),
-            table("Conflicts after the deadline, without a tick", &STAGES[..5]),
-            table("Ten conflicts", RATE),
-            table("Ticks by stage", cross(&STAGES[..5], &LATENESS)),
-            table("Ticks with several deadlines", OVERDUE),
-            table("Slots in use at an accepted call", 0..=4),
-            table("Times", times),
-            table("Draws", draws),
-            table("Addresses asked for", addresses),
-            table("Packets", PACKETS),
-            table("Freshes", FRESHES),
-            table("Before the first fresh", BEFORE),
-            table("Changed lines", broken),
-            table("Cuts", CUTS),
-        ];
+        let table = |(title, names): (&'static str, Vec<String>)| Table {
+            title,
+            counts: vec![0; names.len()],
+            names,
+        };
+        let tables = places::tables().into_iter().map(table).collect();
         Coverage { tables }
     }
 
+    /// Counts the place in this row.
     pub fn hit(&mut self, part: Part, row: usize) {
-        self.add(part, row, 1);
+        self.tables[part as usize].counts[row] += 1;
     }
 
-    pub fn add(&mut self, part: Part, row: usize, count: u64) {
-        self.tables[part as usize].counts[row] += count;
+    /// Counts the place of this name.
+    pub fn meet(&mut self, part: Part, name: &str) {
+        self.add(part, name, 1);
+    }
+
+    pub fn add(&mut self, part: Part, name: &str, count: u64) {
+        let Table { names, counts, .. } = &mut self.tables[part as usize];
+        let row = names.iter().position(|known| known == name);
+        counts[row.expect("a place of the table")] += count;
     }
 
     pub fn merge(&mut self, other: &Coverage) {
@@ -116,31 +88,6 @@ impl Coverage {
         }
         text
     }
-}
-
-fn table<T: ToString>(title: &'static str, names: impl IntoIterator<Item = T>) -> Table {
-    let names: Vec<String> = names.into_iter().map(|name| name.to_string()).collect();
-    let counts = vec![0; names.len()];
-    Table {
-        title,
-        names,
-        counts,
-    }
-}
-
-fn pair(&(call, one, two): &(usize, usize, usize)) -> String {
-    format!("{} {one} and {two}", Call::WORDS[call])
-}
-
-/// Each of the first with each of the second.
-fn cross<A: ToString, B: ToString>(first: &[A], second: &[B]) -> Vec<String> {
-    let row = |a: &A| -> Vec<String> {
-        second
-            .iter()
-            .map(|b| format!("{} {}", a.to_string(), b.to_string()))
-            .collect()
-    };
-    first.iter().flat_map(row).collect()
 }
 
 /// A title, then "name: count" in lines of moderate length.

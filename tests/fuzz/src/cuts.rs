@@ -32,20 +32,20 @@ pub fn at_each_byte<'a>(
     input: &'a [u8],
     coverage: &mut Coverage,
 ) -> Option<Cut<'a>> {
-    coverage.hit(Part::Cuts, 4);
+    coverage.meet(Part::Cuts, "empty inputs");
     for length in 0..=input.len() {
         let found = cut(program, &input[..length], Vec::new());
         if found.is_some() {
             return found;
         }
-        coverage.hit(Part::Cuts, 3);
+        coverage.meet(Part::Cuts, "inputs ended after a byte");
     }
     for first in 1..input.len() {
         let found = cut(program, input, vec![first, input.len() - first]);
         if found.is_some() {
             return found;
         }
-        coverage.hit(Part::Cuts, 9);
+        coverage.meet(Part::Cuts, "inputs in two pieces, cut at a byte");
     }
     None
 }

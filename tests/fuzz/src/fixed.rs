@@ -1,6 +1,9 @@
 //! A fixed set of lines for the gate: few, but chosen so that they reach as
 //! many places as that number permits.
 
+use twin::{Address, Hardware, Time};
+
+use crate::Call;
 use crate::compare::expected;
 use crate::coverage::Coverage;
 use crate::generator::Generator;
@@ -63,11 +66,23 @@ impl Fixed {
             };
             fixed.take(pool.swap_remove(best));
         }
+        fixed.end();
         fixed
-            .input
-            .extend_from_slice(b"fresh\t02000000000a\nask\t100\t192.0.2.7\t2\t500");
-        fixed.lines += 2;
-        fixed
+    }
+
+    /// The first two calls of the whole case, the second unended.
+    fn end(&mut self) {
+        let hardware = Hardware(0x0200_0000_000a);
+        Call::Fresh { hardware }.write(&mut self.input);
+        self.input.push(b'\n');
+        let ask = Call::Ask {
+            time: Time(100),
+            address: Address::from_bytes([192, 0, 2, 7]),
+            policy: 2,
+            draw: 500,
+        };
+        ask.write(&mut self.input);
+        self.lines += 2;
     }
 
     /// The twin's answers.

@@ -1,7 +1,9 @@
 //! Calls in the form that have one or two reasons to be refused.
 
+use twin::{FRAME_LEN, SLOTS, Time};
+
+use crate::Call;
 use crate::book::Book;
-use crate::call::Call;
 use crate::random::Random;
 use crate::values;
 
@@ -26,8 +28,8 @@ fn spoil_once(random: &mut Random, book: &Book, call: &mut Call) {
             0 => *address = values::refused_address(random),
             1 => *policy = wrong_policy(random, *policy),
             _ => {
-                if let Some(held) = book.held().last() {
-                    *address = held.address;
+                if let Some(record) = book.state.records().last() {
+                    *address = record.address;
                 }
             }
         },
@@ -41,7 +43,7 @@ fn spoil_once(random: &mut Random, book: &Book, call: &mut Call) {
         }
         Call::Drop { slot, .. } => {
             *slot = if random.once_in(3) {
-                random.below(4)
+                random.below(SLOTS as u64)
             } else {
                 values::wrong_number(random, *slot)
             }
@@ -50,10 +52,14 @@ fn spoil_once(random: &mut Random, book: &Book, call: &mut Call) {
 }
 
 fn spoil_time(random: &mut Random, book: &Book, call: &mut Call) {
-    if book.latest > 0 && random.once_in(2) {
-        call.set_time(values::early_time(random, book.latest));
+    let latest = book.state.latest;
+    let wrong = if latest > Time(0) && random.once_in(2) {
+        values::early_time(random, latest)
     } else {
-        call.set_time(values::late_time(random, book.latest));
+        values::late_time(random, latest)
+    };
+    if let Some(time) = call.time_mut() {
+        *time = wrong;
     }
 }
 
@@ -68,8 +74,8 @@ fn wrong_policy(random: &mut Random, policy: u64) -> u64 {
 fn spoil_length(random: &mut Random, bytes: &mut Vec<u8>) {
     let length = match random.below(4) {
         0 => 0,
-        1 => random.index(27),
-        _ => 27,
+        1 => random.index(FRAME_LEN - 1),
+        _ => FRAME_LEN - 1,
     };
     bytes.truncate(length);
 }

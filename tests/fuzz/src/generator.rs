@@ -1,11 +1,10 @@
 //! Writes histories line by line. Each line is answered by the twin as it is
 //! written, so that the next one can fit the state.
 
-use twin::Replay;
+use twin::{Answer, FRAME_LEN, Interface, MAX_CONFLICTS, Refusal, Replay, Time};
 
-use crate::answer::Answer;
-use crate::book::{Book, RANGE_END};
-use crate::call::Call;
+use crate::Call;
+use crate::book::Book;
 use crate::choose::{self, Met};
 use crate::coverage::Coverage;
 use crate::flaws;
@@ -20,9 +19,9 @@ pub struct Generator {
     pub random: Random,
     /// All lines so far, each with its byte 10.
     pub input: Vec<u8>,
-    /// The twin's answer to each.
-    pub answers: Vec<u8>,
     pub lines: u64,
+    /// The twin's answer to the last.
+    pub answer: Result<Answer, Refusal>,
     pub coverage: Coverage,
     replay: Replay,
     book: Book,
@@ -35,11 +34,11 @@ impl Generator {
         Generator {
             random,
             input: Vec::new(),
-            answers: Vec::new(),
             lines: 0,
+            answer: Err(Refusal::LineNotInForm),
             coverage: Coverage::new(),
             replay: Replay::new(),
-            book: Book::default(),
+            book: Book::new(Interface::ZERO),
             temper,
         }
     }
@@ -50,7 +49,7 @@ impl Generator {
         self.begin(temper);
         for _ in 0..lines {
             self.line();
-            if self.book.latest == RANGE_END && self.random.once_in(40) {
+            if self.book.state.latest == Time::LAST && self.random.once_in(40) {
                 return;
             }
         }
@@ -59,7 +58,7 @@ impl Generator {
     /// A history whose first claim meets this many conflicts in use.
     pub fn quarrel(&mut self, conflicts: u64) {
         let mut temper = Temper::new(&mut self.random);
-        temper.start = 0;
+        temper.start = Time(0);
         temper.opening = Opening::Conflicts(conflicts);
         self.begin(temper);
     }
@@ -73,25 +72,33 @@ impl Generator {
         match self.temper.opening {
             Opening::Tick => self.say(&Call::Tick { time, draw: 0 }, None),
             Opening::Losses => {
-                for _ in 0..10 {
+                for _ in 0..MAX_CONFLICTS {
                     self.claim(time, 1);
                     self.conflict();
                 }
             }
             Opening::Conflicts(count) => {
                 self.claim(time, 3);
-                while let Some(time) = self.book.next_deadline().filter(|time| *time <= RANGE_END) {
+                while let Some(time) = self.next_tick() {
                     self.say(&Call::Tick { time, draw: 0 }, None);
                 }
                 for _ in 0..count {
                     self.conflict();
                 }
-                self.claim(self.book.latest, 3);
+                self.claim(self.book.state.latest, 3);
             }
         }
     }
 
-    fn claim(&mut self, time: u64, policy: u64) {
+    /// The next deadline, if a tick can serve it.
+    fn next_tick(&self) -> Option<Time> {
+        self.book
+            .state
+            .next_deadline()
+            .filter(|time| time.in_range())
+    }
+
+    fn claim(&mut self, time: Time, policy: u64) {
         let address = values::address(&mut self.random);
         let call = Call::Ask {
             time,
@@ -104,10 +111,9 @@ impl Generator {
 
     /// A conflict for the record in the lowest slot.
     fn conflict(&mut self) {
-        let Some(record) = self.book.held().next().copied() else {
-            return;
-        };
-        if let Some((call, met)) = choose::claimed(&mut self.random, &self.book, record) {
+        let first = self.book.claims().next();
+        if let Some(claim) = first {
+            let (call, met) = choose::claimed(&mut self.random, &self.book, claim);
             self.say(&call, Some(met));
         }
     }
@@ -187,9 +193,8 @@ impl Generator {
     /// seldom a tick with nothing to wait for, or an ask without a free slot.
     fn sort(&mut self) -> Sort {
         let sort = self.temper.sort(&mut self.random);
-        let full = self.book.held().count() == 4;
-        let next = self.book.next_deadline();
-        let waiting = next.is_some_and(|deadline| deadline <= RANGE_END);
+        let full = self.book.state.lowest_free_slot().is_none();
+        let waiting = self.next_tick().is_some();
         match sort {
             _ if self.random.once_in(6) => sort,
             Sort::Tick if !waiting && !full => Sort::Ask,
@@ -230,12 +235,12 @@ impl Generator {
     fn say(&mut self, call: &Call, met: Option<Met>) {
         let start = self.input.len();
         call.write(&mut self.input);
-        let answer = self.answer_from(start);
-        observe::call(&mut self.coverage, &self.book, call, answer);
-        if let (Some(met), Some(time)) = (met, call.time()) {
-            observe::meeting(&mut self.coverage, &self.book, &met, time, answer);
+        self.answer_from(start);
+        observe::call(&mut self.coverage, &self.book, call, self.answer);
+        if let (Some(met), Some(time), Ok(answer)) = (met, call.time(), self.answer) {
+            observe::meeting(&mut self.coverage, &self.book, &met, time, answer.kind);
         }
-        self.note(call, answer);
+        self.note();
     }
 
     /// A line out of the form, or only just in it.
@@ -255,14 +260,12 @@ impl Generator {
         (mutation.change)(&mut self.random, &mut line);
         let start = self.input.len();
         self.input.extend_from_slice(&line);
-        let answer = self.answer_from(start);
+        self.answer_from(start);
         self.coverage.hit(Part::Broken, chosen);
-        if self.book.own.is_none() && answer == Answer::Refused(14) {
-            self.coverage.hit(Part::Before, 0);
+        if !self.book.has_begun() && self.answer == Err(Refusal::LineNotInForm) {
+            self.coverage.meet(Part::Before, "malformed");
         }
-        if let (Answer::Accepted { .. }, Some(call)) = (answer, Call::read(&line)) {
-            self.note(&call, answer);
-        }
+        self.note();
     }
 
     /// The call itself if it has what is needed, else another that has.
@@ -282,20 +285,18 @@ impl Generator {
     }
 
     /// Ends the line that begins at `start` and has it answered.
-    fn answer_from(&mut self, start: usize) -> Answer {
-        let before = self.answers.len();
-        self.replay.answer(&self.input[start..], &mut self.answers);
+    fn answer_from(&mut self, start: usize) {
+        let line = &self.input[start..];
+        self.answer = self.replay.call(line, &mut [0; FRAME_LEN]);
         self.input.push(b'\n');
         self.lines += 1;
-        let answer = Answer::read(&self.answers[before..]);
-        observe::answer(&mut self.coverage, answer);
-        answer
+        observe::answer(&mut self.coverage, self.answer);
     }
 
-    fn note(&mut self, call: &Call, answer: Answer) {
-        self.book.note(call, answer);
-        if let Answer::Accepted { next, .. } = answer {
-            debug_assert_eq!(self.book.next_deadline(), next, "the book has strayed");
+    /// Takes down the last answer, if its call was accepted.
+    fn note(&mut self) {
+        if let Ok(answer) = self.answer {
+            self.book.note(answer, self.replay.interface());
         }
     }
 }

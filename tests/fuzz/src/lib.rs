@@ -1,11 +1,9 @@
 //! A differential fuzzer: random histories of replay lines go through a replay
 //! program and through the twin, and both have to write the same bytes.
 
-pub mod answer;
 pub mod args;
 pub mod batch;
 pub mod book;
-pub mod call;
 pub mod choose;
 pub mod compare;
 pub mod coverage;
@@ -26,3 +24,6 @@ pub mod report;
 pub mod shrink;
 pub mod temper;
 pub mod values;
+
+/// A call with the bytes of its packet.
+pub type Call = twin::Call<Vec<u8>>;

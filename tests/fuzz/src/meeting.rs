@@ -1,7 +1,6 @@
 //! The packets that a claim can meet on the wire.
 
-use crate::call::{Address, Hardware};
-use crate::reasons::HEAD;
+use twin::{Address, FRAME_LEN, Frame, Hardware};
 
 #[derive(Clone, Copy, Debug, PartialEq, Eq)]
 pub enum Meeting {
@@ -48,7 +47,14 @@ pub struct Around {
 }
 
 /// The 28 bytes of such a packet about `address`.
-pub fn frame(meeting: Meeting, address: Address, around: &Around) -> Vec<u8> {
+pub fn packet_bytes(meeting: Meeting, address: Address, around: &Around) -> Vec<u8> {
+    let mut bytes = vec![0; FRAME_LEN];
+    let written = frame(meeting, address, around).write(&mut bytes);
+    written.expect("operation 1 or 2, and hardware of 48 bits");
+    bytes
+}
+
+fn frame(meeting: Meeting, address: Address, around: &Around) -> Frame {
     let Around {
         own,
         other,
@@ -56,36 +62,26 @@ pub fn frame(meeting: Meeting, address: Address, around: &Around) -> Vec<u8> {
         target,
         target_hardware,
     } = *around;
-    let zero = [0; 4];
+    let from = |operation, sender_hardware, sender_ip, target_ip| Frame {
+        operation,
+        sender_hardware,
+        sender_ip,
+        target_hardware,
+        target_ip,
+    };
+    let zero = Address::ZERO;
     match meeting {
-        Meeting::OtherRequest => bytes(1, other, address, target_hardware, target),
-        Meeting::OtherReply => bytes(2, other, address, target_hardware, target),
-        Meeting::OurRequest => bytes(1, own, address, target_hardware, target),
-        Meeting::OurReply => bytes(2, own, address, target_hardware, target),
-        Meeting::OtherProbe => bytes(1, other, zero, target_hardware, address),
-        Meeting::OtherProbeAsReply => bytes(2, other, zero, target_hardware, address),
-        Meeting::EchoedProbe => bytes(1, own, zero, [0; 6], address),
-        Meeting::EchoedAnnouncement => bytes(1, own, address, [0; 6], address),
-        Meeting::TargetOnly => bytes(1, other, elsewhere, target_hardware, address),
-        Meeting::ZeroAddresses => bytes(1, other, zero, target_hardware, zero),
-        Meeting::Unrelated => bytes(2, other, elsewhere, target_hardware, elsewhere),
-        Meeting::ProbeElsewhere => bytes(1, other, zero, target_hardware, elsewhere),
+        Meeting::OtherRequest => from(1, other, address, target),
+        Meeting::OtherReply => from(2, other, address, target),
+        Meeting::OurRequest => from(1, own, address, target),
+        Meeting::OurReply => from(2, own, address, target),
+        Meeting::OtherProbe => from(1, other, zero, address),
+        Meeting::OtherProbeAsReply => from(2, other, zero, address),
+        Meeting::EchoedProbe => Frame::probe(own, address),
+        Meeting::EchoedAnnouncement => Frame::announcement(own, address),
+        Meeting::TargetOnly => from(1, other, elsewhere, address),
+        Meeting::ZeroAddresses => from(1, other, zero, zero),
+        Meeting::Unrelated => from(2, other, elsewhere, elsewhere),
+        Meeting::ProbeElsewhere => from(1, other, zero, elsewhere),
     }
-}
-
-fn bytes(
-    operation: u8,
-    sender: Hardware,
-    ip: Address,
-    target: Hardware,
-    target_ip: Address,
-) -> Vec<u8> {
-    let mut frame = Vec::with_capacity(32);
-    frame.extend_from_slice(&HEAD);
-    frame.extend_from_slice(&[0, operation]);
-    frame.extend_from_slice(&sender);
-    frame.extend_from_slice(&ip);
-    frame.extend_from_slice(&target);
-    frame.extend_from_slice(&target_ip);
-    frame
 }

@@ -1,5 +1,7 @@
 //! Lines that are out of the form, or only just in it.
 
+use twin::{DIGITS_MAX, LINE_MAX, WORDS};
+
 use crate::edit::{
     any_byte, any_dot, any_field, any_tab, before_field, change_part, digits, fields, fill,
     hex_digits, insert, like_digit, pad_hex, set_field, set_last, set_word,
@@ -109,10 +111,7 @@ pub const MUTATIONS: &[Mutation] = &[
         line[place] = line[place].to_ascii_uppercase();
     }),
     often("other word", Anything, |random, line| {
-        set_word(
-            line,
-            random.pick(&["fresh", "ask", "tick", "packet", "drop"]),
-        );
+        set_word(line, random.pick(&WORDS));
     }),
     often("leading zero", Time, |random, line| {
         before_field(random, line, b'0')
@@ -233,28 +232,32 @@ pub const MUTATIONS: &[Mutation] = &[
         insert(random, line, &[0xc2, 0xa0])
     }),
     seldom(25, "2,998 digits", Packet, |random, line| {
-        hex_digits(random, line, 2998)
+        hex_digits(random, line, DIGITS_MAX - 2)
     }),
     seldom(25, "3,000 digits", Packet, |random, line| {
-        hex_digits(random, line, 3000)
+        hex_digits(random, line, DIGITS_MAX)
     }),
     seldom(25, "3,001 digits", Packet, |random, line| {
-        hex_digits(random, line, 3001)
+        hex_digits(random, line, DIGITS_MAX + 1)
     }),
     seldom(25, "3,002 digits", Packet, |random, line| {
-        hex_digits(random, line, 3002)
+        hex_digits(random, line, DIGITS_MAX + 2)
     }),
-    seldom(20, "4,095 bytes", Anything, |_, line| fill(line, 4095)),
-    seldom(20, "4,096 bytes", Anything, |_, line| fill(line, 4096)),
-    seldom(20, "4,097 bytes", Anything, |_, line| fill(line, 4097)),
+    seldom(20, "4,095 bytes", Anything, |_, line| {
+        fill(line, LINE_MAX - 1)
+    }),
+    seldom(20, "4,096 bytes", Anything, |_, line| fill(line, LINE_MAX)),
+    seldom(20, "4,097 bytes", Anything, |_, line| {
+        fill(line, LINE_MAX + 1)
+    }),
     seldom(10, "4,096 bytes and a good line", Anything, |_, line| {
-        fill(line, 4096 + line.len())
+        fill(line, LINE_MAX + line.len())
     }),
     seldom(10, "4,097 bytes and a good line", Anything, |_, line| {
-        fill(line, 4097 + line.len())
+        fill(line, LINE_MAX + 1 + line.len())
     }),
     seldom(12, "8,191 to 8,194 bytes", Anything, |random, line| {
-        fill(line, random.between(8191, 8194) as usize);
+        fill(line, 2 * LINE_MAX - 1 + random.index(4));
     }),
     seldom(10, "about 65,536 bytes", Anything, |random, line| {
         fill(line, random.between(65_530, 65_542) as usize);

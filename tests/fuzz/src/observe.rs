@@ -1,120 +1,119 @@
 //! Counts the places that an answered call met. The book is the one before
 //! the call.
 
-use crate::answer::{Answer, Kind};
-use crate::book::{ANNOUNCED, Book, RANGE_END, Record, SETTLED, STAGES};
-use crate::call::{Address, Call, Hardware};
+use twin::{
+    Address, Answer, DEFEND_INTERVAL, FRAME_LEN, Frame, Hardware, Kind, MAX_CONFLICTS,
+    RATE_LIMIT_INTERVAL, REQUEST, Refusal, Time,
+};
+
+use crate::Call;
+use crate::book::{Book, Claim, Conflict, STAGES, stage_number};
 use crate::choose::Met;
 use crate::coverage::Coverage;
 use crate::meeting::Meeting;
-use crate::places::{Part, REFUSALS};
-use crate::reasons::{HEAD, PAIRS, reasons};
-use crate::values::{ADDRESSES, DRAWS, HARDWARE, WRAP};
+use crate::places::{DEADLINES, LATENESS, NEW_USE, Part, SETTLED_SINCE, WRAPPED, shown_refusals};
+use crate::reasons::{pair, reasons};
+use crate::values::{ADDRESSES, APART, DRAWS, HARDWARE, WAITED, WRAP};
 
-const WRAP_AND_10_000: u64 = WRAP + 10_000;
-const WRAP_AND_60_000: u64 = WRAP + 60_000;
+const LAST_BUT_ONE: u8 = MAX_CONFLICTS - 1;
 
-pub fn answer(coverage: &mut Coverage, answer: Answer) {
+pub fn answer(coverage: &mut Coverage, answer: Result<Answer, Refusal>) {
     match answer {
-        Answer::Accepted { kind, next, .. } => {
+        Ok(Answer { kind, next, .. }) => {
             coverage.hit(Part::Kinds, kind as usize);
-            if let Some(above) = next.and_then(|deadline| deadline.checked_sub(RANGE_END)) {
-                coverage.hit(Part::Times, 16 + above.min(2) as usize);
+            if let Some(deadline) = next.filter(|deadline| *deadline >= Time::LAST) {
+                let above = deadline.since(Time::LAST).min(2);
+                coverage.meet(Part::Times, DEADLINES[above as usize]);
             }
         }
-        Answer::Refused(number) => {
-            if let Some(row) = REFUSALS.iter().position(|known| *known == number) {
+        Err(refusal) => {
+            if let Some(row) = shown_refusals().position(|shown| shown == refusal) {
                 coverage.hit(Part::Refusals, row);
             }
         }
-        Answer::Foreign => {}
     }
 }
 
-pub fn call(coverage: &mut Coverage, book: &Book, call: &Call, answer: Answer) {
-    pairs(coverage, book, call);
-    time(coverage, book, call);
-    if book.own.is_none() && call.time().is_some() {
-        coverage.hit(Part::Before, call.number());
+pub fn call(coverage: &mut Coverage, book: &Book, call: &Call, answer: Result<Answer, Refusal>) {
+    apply(coverage, book, call, answer.err());
+    if let Some(time) = call.time() {
+        timed(coverage, book, call.word(), time);
     }
-    let accepted = match answer {
-        Answer::Accepted { kind, .. } => Some(kind),
-        _ => None,
-    };
     match call {
-        Call::Fresh { hardware } => fresh(coverage, book, *hardware, accepted.is_some()),
+        Call::Fresh { hardware } => fresh(coverage, book, *hardware, answer.is_ok()),
         Call::Ask {
             time,
             address,
             draw,
             ..
         } => {
-            asked_address(coverage, *address);
-            if book.own.is_some() {
-                ask_after_request(coverage, book, *time);
+            ask(coverage, book, *time, *address);
+            if answer == Err(Refusal::TooManyConflicts) {
+                too_many_conflicts(coverage, book);
             }
-            if answer == Answer::Refused(12) {
-                refused_12(coverage, book);
-            }
-            if accepted.is_some() {
-                drawn(coverage, 0, *draw);
+            if answer.is_ok() {
+                drawn(coverage, call.word(), *draw);
             }
         }
         Call::Tick { time, draw } => {
-            if let Some(kind) = accepted {
+            if let Ok(answer) = answer {
                 tick(coverage, book, *time);
-                if kind == Kind::Probe {
-                    drawn(coverage, DRAWS.len(), *draw);
+                if answer.kind == Kind::Probe {
+                    drawn(coverage, call.word(), *draw);
                 }
             }
         }
         Call::Packet { bytes, .. } => packet(coverage, book, bytes),
         Call::Drop { .. } => {}
     }
-    if accepted.is_some() {
-        coverage.hit(Part::InUse, book.held().count());
+    if answer.is_ok() {
+        coverage.hit(Part::InUse, book.state.records().count());
         clock(coverage, book, call);
     }
 }
 
-/// An accepted call's step over a power of two on which a clock may wrap.
-fn clock(coverage: &mut Coverage, book: &Book, call: &Call) {
-    let Some(time) = call.time() else { return };
-    let passes = |edge: u64| book.latest < edge && edge <= time;
-    if time - book.latest >= WRAP {
-        coverage.hit(Part::Times, 22);
-    } else if passes(1 << 31) {
-        coverage.hit(Part::Times, 19);
-    } else if passes(WRAP) {
-        coverage.hit(Part::Times, 20);
-    } else if book.latest / WRAP != time / WRAP {
-        coverage.hit(Part::Times, 21);
-    }
-}
-
-fn pairs(coverage: &mut Coverage, book: &Book, call: &Call) {
-    let set = reasons(book, call);
-    if set.count_ones() < 2 {
-        return;
-    }
-    for (row, (word, one, two)) in PAIRS.iter().enumerate() {
-        if *word == call.number() && set >> one & set >> two & 1 == 1 {
-            coverage.hit(Part::Pairs, row);
+/// Counts the pairs of refusals that apply.
+fn apply(coverage: &mut Coverage, book: &Book, call: &Call, refusal: Option<Refusal>) {
+    let reasons = reasons(&book.state, call);
+    debug_assert_eq!(reasons.first().copied(), refusal, "the first is given");
+    for (place, one) in reasons.iter().enumerate() {
+        for two in &reasons[place + 1..] {
+            let name = pair(call.word(), one.number(), two.number());
+            coverage.meet(Part::Pairs, &name);
         }
     }
 }
 
-fn time(coverage: &mut Coverage, book: &Book, call: &Call) {
-    let Some(time) = call.time() else { return };
-    let first = (call.number() - 1) * 4;
-    if time == RANGE_END {
-        coverage.hit(Part::Times, first);
-    } else if time == RANGE_END + 1 {
-        coverage.hit(Part::Times, first + 1);
-    } else if time == u64::MAX {
-        coverage.hit(Part::Times, first + 2);
-    } else if time + 1 == book.latest {
-        coverage.hit(Part::Times, first + 3);
+/// Counts the time of a call with this word.
+fn timed(coverage: &mut Coverage, book: &Book, word: &str, time: Time) {
+    if !book.has_begun() {
+        coverage.meet(Part::Before, word);
+    }
+    let name = match time {
+        Time::LAST => "2^48 - 1",
+        Time(ms) if ms == Time::LAST.0 + 1 => "2^48",
+        Time(u64::MAX) => "2^64 - 1",
+        _ if time.plus(1) == book.state.latest => "one before the latest",
+        _ => return,
+    };
+    coverage.meet(Part::Times, &format!("{word} {name}"));
+}
+
+/// An accepted call's step over a power of two on which a clock may wrap.
+fn clock(coverage: &mut Coverage, book: &Book, call: &Call) {
+    let Some(Time(time)) = call.time() else {
+        return;
+    };
+    let Time(latest) = book.state.latest;
+    let passes = |edge: u64| latest < edge && edge <= time;
+    if time - latest >= WRAP {
+        coverage.meet(Part::Times, "2^32 and more in one step");
+    } else if passes(1 << 31) {
+        coverage.meet(Part::Times, "clock passes 2^31");
+    } else if passes(WRAP) {
+        coverage.meet(Part::Times, "clock passes 2^32");
+    } else if latest / WRAP != time / WRAP {
+        coverage.meet(Part::Times, "clock passes another multiple of 2^32");
     }
 }
 
@@ -122,193 +121,196 @@ fn fresh(coverage: &mut Coverage, book: &Book, hardware: Hardware, accepted: boo
     if let Some(row) = HARDWARE.iter().position(|known| *known == hardware) {
         coverage.hit(Part::Freshes, row);
     }
-    let claims = book.held().next().is_some();
-    let row = match (accepted, claims) {
-        (true, _) => 5 + usize::from(claims),
-        (false, _) if book.own.is_none() => 7,
-        (false, _) => 8 + usize::from(claims),
+    let claims = book.state.records().next().is_some();
+    let name = match (accepted, claims) {
+        (true, false) => "accepted with nothing held",
+        (true, true) => "accepted with a claim open",
+        (false, false) if !book.has_begun() => "refused before the first",
+        (false, false) => "refused with nothing held",
+        (false, true) => "refused with a claim open",
     };
-    coverage.hit(Part::Freshes, row);
+    coverage.meet(Part::Freshes, name);
 }
 
-fn asked_address(coverage: &mut Coverage, address: Address) {
+fn ask(coverage: &mut Coverage, book: &Book, time: Time, address: Address) {
     if let Some(row) = ADDRESSES.iter().position(|known| *known == address) {
         coverage.hit(Part::Addresses, row);
     }
-}
-
-fn ask_after_request(coverage: &mut Coverage, book: &Book, time: u64) {
-    let Some(after) = book.request.and_then(|request| time.checked_sub(request)) else {
+    let Some(asked) = book.state.request.filter(|asked| *asked <= time) else {
         return;
     };
-    match (book.conflicts, after) {
-        (10, 59_999) => coverage.hit(Part::Rate, 4),
-        (10, 60_000) => coverage.hit(Part::Rate, 5),
-        (10, 60_001) => coverage.hit(Part::Rate, 6),
-        (10, 0) => coverage.hit(Part::Rate, 7),
-        (9, 0..60_000) => coverage.hit(Part::Rate, 8),
-        (10, WRAP..WRAP_AND_60_000) => coverage.hit(Part::Rate, 9),
+    let after = time.since(asked);
+    match book.state.conflicts {
+        MAX_CONFLICTS => after_ten(coverage, after),
+        LAST_BUT_ONE if after < RATE_LIMIT_INTERVAL => {
+            coverage.meet(Part::Rate, "ask soon after the request with 9 conflicts")
+        }
         _ => {}
     }
 }
 
-fn refused_12(coverage: &mut Coverage, book: &Book) {
-    if book.all_conflicts >= 256 {
-        coverage.hit(Part::Rate, 10);
-    }
-    if book.request == Some(0) {
-        coverage.hit(Part::Rate, 11);
-    }
-}
-
-fn drawn(coverage: &mut Coverage, first: usize, draw: u32) {
-    if let Some(row) = DRAWS.iter().position(|known| *known == draw) {
-        coverage.hit(Part::Draws, first + row);
-    }
-}
-
-fn tick(coverage: &mut Coverage, book: &Book, time: u64) {
-    let Some((record, deadline)) = book.first_due().and_then(|due| Some((due, due.deadline?)))
-    else {
-        return coverage.hit(Part::Overdue, 6);
+/// Counts an ask this long after the latest accepted one, after ten conflicts.
+fn after_ten(coverage: &mut Coverage, after: u64) {
+    const WRAPPED_LIMIT: u64 = WRAP + RATE_LIMIT_INTERVAL;
+    let name = match after {
+        0 => "ask 0 ms after",
+        _ if after == WAITED[0] => "ask 59,999 ms after the request",
+        _ if after == WAITED[1] => "ask 60,000 ms after",
+        _ if after == WAITED[2] => "ask 60,001 ms after",
+        WRAP..WRAPPED_LIMIT => "ask 2^32 and under 60,000 ms after the request",
+        _ => return,
     };
-    let lateness = match time.wrapping_sub(deadline) {
+    coverage.meet(Part::Rate, name);
+}
+
+fn too_many_conflicts(coverage: &mut Coverage, book: &Book) {
+    if book.conflicts >= 256 {
+        coverage.meet(Part::Rate, "refused after 256 conflicts or more");
+    }
+    if book.state.request == Some(Time(0)) {
+        coverage.meet(Part::Rate, "refused with the request at time 0");
+    }
+}
+
+fn drawn(coverage: &mut Coverage, word: &str, draw: u32) {
+    if DRAWS.contains(&draw) {
+        coverage.meet(Part::Draws, &format!("{word} {draw}"));
+    }
+}
+
+fn tick(coverage: &mut Coverage, book: &Book, time: Time) {
+    let Some((slot, deadline)) = book.state.earliest() else {
+        return coverage.meet(Part::Overdue, "nothing waited for");
+    };
+    let lateness = match time.0.wrapping_sub(deadline.0) {
         u64::MAX => Some(0),
         0 => Some(1),
         1 => Some(2),
-        10_000..=RANGE_END => Some(3),
+        late if late >= 10_000 && time > deadline => Some(3),
         _ => None,
     };
     if let Some(row) = lateness {
-        coverage.hit(Part::Ticks, record.stage.min(ANNOUNCED) * 4 + row);
+        let stage = stage_number(book.state.slots[slot].stage);
+        coverage.hit(Part::Ticks, stage * LATENESS.len() + row);
     }
     several_due(coverage, book, time, deadline);
 }
 
-fn several_due(coverage: &mut Coverage, book: &Book, time: u64, earliest: u64) {
-    let overdue = book
-        .deadlines()
-        .filter(|deadline| *deadline <= time)
-        .count();
+fn several_due(coverage: &mut Coverage, book: &Book, time: Time, earliest: Time) {
+    let deadlines = || book.state.deadlines();
+    let overdue = deadlines().filter(|deadline| *deadline <= time).count();
     if overdue < 2 {
         return;
     }
     coverage.hit(Part::Overdue, overdue - 2);
-    let ties = book
-        .deadlines()
-        .filter(|deadline| *deadline == earliest)
-        .count();
-    if ties > 1 {
-        coverage.hit(Part::Overdue, 3 + (ties - 2).min(1));
+    match deadlines().filter(|deadline| *deadline == earliest).count() {
+        1 => {}
+        2 => coverage.meet(Part::Overdue, "tie of two"),
+        _ => coverage.meet(Part::Overdue, "tie of three"),
     }
-    let lowest = book.deadlines().find(|deadline| *deadline <= time);
+    let lowest = deadlines().find(|deadline| *deadline <= time);
     if lowest != Some(earliest) {
-        coverage.hit(Part::Overdue, 5);
+        coverage.meet(Part::Overdue, "a higher slot served first");
     }
 }
 
 fn packet(coverage: &mut Coverage, book: &Book, bytes: &[u8]) {
     let length = match bytes.len() {
-        0 => 0,
-        1..=26 => 1,
-        27..=29 => bytes.len() - 25,
-        30..=1499 => 5,
-        _ => 6,
+        0 => "0 bytes",
+        1..=26 => "1 to 26 bytes",
+        27 => "27 bytes",
+        28 => "28 bytes",
+        29 => "29 bytes",
+        30..=1499 => "30 to 1,499 bytes",
+        _ => "1,500 bytes",
     };
-    coverage.hit(Part::Packets, length);
-    if bytes.len() < 28 {
-        return;
+    coverage.meet(Part::Packets, length);
+    if bytes.len() >= FRAME_LEN {
+        header(coverage, bytes);
     }
-    let wrong = (0..6).find(|place| bytes[*place] != HEAD[*place]);
-    let header = match (wrong, bytes[6], bytes[7]) {
-        (Some(place), _, _) => Some(7 + place),
-        (None, 0, 0) => Some(14),
-        (None, 0, 1 | 2) => Some(16),
-        (None, 0, 3) => Some(15),
-        (None, 0, _) => Some(17),
-        (None, _, _) => Some(13),
-    };
-    if let Some(row) = header {
-        coverage.hit(Part::Packets, row);
-    }
-    if header == Some(16) {
-        near(coverage, book, bytes);
+    if let Ok(frame) = Frame::read(bytes) {
+        let sender = "sender IP one bit from a claimed one";
+        near(coverage, book, frame.sender_ip, sender);
+        let target = "target IP one bit from a claimed one";
+        near(coverage, book, frame.target_ip, target);
     }
 }
 
-/// Counts IPs of which one bit is other than a claim's.
-fn near(coverage: &mut Coverage, book: &Book, bytes: &[u8]) {
-    for (start, row) in [(14, 18), (24, 19)] {
-        let bits = |address: Address| -> u32 {
-            let pairs = address.iter().zip(&bytes[start..]);
-            pairs.map(|(one, other)| (one ^ other).count_ones()).sum()
-        };
-        if book.held().any(|record| bits(record.address) == 1) {
-            coverage.hit(Part::Packets, row);
-        }
+/// Counts the first byte that is wrong, or the operation.
+fn header(coverage: &mut Coverage, bytes: &[u8]) {
+    if let Some(place) = (0..7).find(|place| bytes[*place] != REQUEST[*place]) {
+        return coverage.meet(Part::Packets, &format!("byte {place} wrong"));
+    }
+    let operation = match bytes[7] {
+        0 => "operation 0",
+        1 | 2 => "operation 1 or 2",
+        3 => "operation 3",
+        _ => "operation 4 to 255",
+    };
+    coverage.meet(Part::Packets, operation);
+}
+
+/// Counts an IP of which one bit is other than a claim's.
+fn near(coverage: &mut Coverage, book: &Book, ip: Address, name: &str) {
+    let bits = |address: Address| (address.0 ^ ip.0).count_ones();
+    if book.state.records().any(|record| bits(record.address) == 1) {
+        coverage.meet(Part::Packets, name);
     }
 }
 
 /// Counts what an accepted packet was to the claim that it is about.
-pub fn meeting(coverage: &mut Coverage, book: &Book, met: &Met, time: u64, answer: Answer) {
-    let Answer::Accepted { kind, .. } = answer else {
+pub fn meeting(coverage: &mut Coverage, book: &Book, met: &Met, time: Time, kind: Kind) {
+    let Met { claim, meeting } = met;
+    let stage = stage_number(claim.record.stage);
+    let policy = usize::from(claim.record.policy);
+    let row = (policy - 1) * Meeting::ALL.len() + *meeting as usize;
+    coverage.hit(Part::Meetings, row * STAGES.len() + stage);
+    if !kind.is_conflict() {
         return;
-    };
-    let policy = met.record.policy as usize - 1;
-    let row = policy * Meeting::ALL.len() + met.meeting as usize;
-    coverage.hit(Part::Meetings, row * STAGES.len() + met.record.stage);
-    let conflict = match kind {
-        Kind::Lost => 0,
-        Kind::Defend => 1,
-        Kind::Kept => 2,
-        _ => return,
-    };
-    interval(coverage, met, time);
-    new_use(coverage, book, met, time);
-    if met.record.deadline.is_some_and(|deadline| deadline < time) {
-        coverage.hit(Part::Passed, met.record.stage);
     }
-    match book.conflicts {
-        9 => coverage.hit(Part::Rate, conflict),
-        10 => coverage.hit(Part::Rate, 3),
+    interval(coverage, claim, time);
+    new_use(coverage, book, claim, time);
+    let deadline = claim.record.stage.deadline();
+    if deadline.is_some_and(|deadline| deadline < time) {
+        coverage.hit(Part::Passed, stage);
+    }
+    match book.state.conflicts {
+        LAST_BUT_ONE => coverage.meet(Part::Rate, &format!("tenth conflict {}", kind.word())),
+        MAX_CONFLICTS => coverage.meet(Part::Rate, "conflict after the tenth"),
         _ => {}
     }
 }
 
-fn interval(coverage: &mut Coverage, met: &Met, time: u64) {
-    let Some(last) = met.record.conflict else {
+fn interval(coverage: &mut Coverage, claim: &Claim, time: Time) {
+    let Some(last) = claim.conflict else {
         return;
     };
-    let before = match (met.record.policy, last.kind) {
+    let policy = usize::from(claim.record.policy);
+    let before = match (policy, last.kind) {
         (2, _) => 0,
         (3, Kind::Defend) => 1,
         _ => 2,
     };
-    let apart = time.wrapping_sub(last.time);
-    let exact = [0, 9_999, 10_000, 10_001]
-        .iter()
-        .position(|known| *known == apart);
+    let apart = time.since(last.time);
+    let exact = APART.iter().position(|known| *known == apart);
     if let Some(row) = exact {
-        coverage.hit(Part::Intervals, before * 4 + row);
+        coverage.hit(Part::Intervals, before * APART.len() + row);
     }
-    if (WRAP..WRAP_AND_10_000).contains(&apart) && met.record.policy >= 2 {
-        coverage.hit(Part::Intervals, 17 + met.record.policy as usize);
+    if (WRAP..WRAP + DEFEND_INTERVAL).contains(&apart) && policy >= 2 {
+        coverage.meet(Part::Intervals, WRAPPED[policy - 2]);
     }
-    let row = if apart < 9_999 { Some(0) } else { exact };
-    if let (Some(row), true) = (row, last.stage != met.record.stage) {
-        coverage.hit(Part::Intervals, 12 + row);
+    let row = if apart < APART[1] { Some(0) } else { exact };
+    if let (Some(row), true) = (row, last.stage != stage_number(claim.record.stage)) {
+        coverage.meet(Part::Intervals, SETTLED_SINCE[row]);
     }
 }
 
 /// The first conflict of a use, soon after one in the slot's use before.
-fn new_use(coverage: &mut Coverage, book: &Book, met: &Met, time: u64) {
-    let Met { record, .. } = met;
-    let same = |held: &Option<Record>| held.is_some_and(|held| held.address == record.address);
-    let slot = book.slots.iter().position(same);
-    let before = slot.and_then(|slot| book.quarrels[slot]);
-    let soon = before.is_some_and(|before| time < before + 10_000);
-    let in_use = [ANNOUNCED, SETTLED].contains(&record.stage);
-    if soon && in_use && record.conflict.is_none() {
-        coverage.hit(Part::Intervals, 15 + record.policy as usize);
+fn new_use(coverage: &mut Coverage, book: &Book, claim: &Claim, time: Time) {
+    let Claim { slot, record, .. } = claim;
+    let soon = |before: Conflict| time.since(before.time) < DEFEND_INTERVAL;
+    let first = record.stage.is_usable() && record.stage.conflict().is_none();
+    if first && book.last[*slot].is_some_and(soon) {
+        coverage.meet(Part::Intervals, NEW_USE[usize::from(record.policy) - 1]);
     }
 }

@@ -1,5 +1,7 @@
 //! Seeded randomness: the same seed gives the same numbers on every machine.
 
+use twin::{Address, Hardware};
+
 /// The generator SplitMix64.
 pub struct Random(u64);
 
@@ -65,7 +67,17 @@ impl Random {
         self.word() as u8
     }
 
-    pub fn bytes<const N: usize>(&mut self) -> [u8; N] {
+    fn bytes<const N: usize>(&mut self) -> [u8; N] {
         std::array::from_fn(|_| self.byte())
+    }
+
+    /// Any address at all.
+    pub fn address(&mut self) -> Address {
+        Address::from_bytes(self.bytes())
+    }
+
+    /// Any hardware address at all.
+    pub fn hardware(&mut self) -> Hardware {
+        Hardware::from_bytes(self.bytes())
     }
 }

@@ -2,10 +2,10 @@
 
 use std::time::Instant;
 
-use crate::call::Call;
+use twin::{Call, FRAME_LEN};
 
 /// A frame's hex digits.
-const FRAME_DIGITS: usize = 56;
+const FRAME_DIGITS: usize = 2 * FRAME_LEN;
 
 /// Whether an input still shows the difference.
 pub type Differs<'a> = dyn FnMut(&[u8]) -> bool + 'a;

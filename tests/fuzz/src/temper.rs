@@ -3,7 +3,9 @@
 
 use std::ops::RangeInclusive;
 
-use crate::book::{ANNOUNCED, RANGE_END, SETTLED};
+use twin::Time;
+
+use crate::book::{ANNOUNCED, SETTLED};
 use crate::random::Random;
 use crate::values::WRAP;
 
@@ -43,7 +45,7 @@ pub struct Temper {
     /// The stages in which packets are sent.
     pub stages: RangeInclusive<usize>,
     /// The time at which the history begins.
-    pub start: u64,
+    pub start: Time,
     pub opening: Opening,
 }
 
@@ -77,16 +79,16 @@ impl Temper {
             1..=16 => Opening::Losses,
             _ => Opening::Tick,
         };
-        let start = match random.below(20) {
-            0 | 1 => RANGE_END - random.below(150_000),
-            2 => RANGE_END - random.below(400),
+        let start = Time(match random.below(20) {
+            0 | 1 => Time::LAST.0 - random.below(150_000),
+            2 => Time::LAST.0 - random.below(400),
             3..=5 => random.word() >> random.between(16, 63),
             6 => (1 << 31) - random.below(20_000),
             7 => WRAP - random.below(20_000),
             8 => WRAP * random.between(2, 65_535) - random.below(20_000),
             9..=11 => 0,
             _ => random.below(5000),
-        };
+        });
         Temper {
             weights,
             policy,

@@ -42,6 +42,14 @@ pub(crate) fn write_answer(answer: &Answer, frame: &[u8; FRAME_LEN], out: &mut V
     out.extend_from_slice(text.as_bytes());
 }
 
+impl Kind {
+    /// The kind in an answer's text.
+    pub fn word(self) -> &'static str {
+        let (words, count) = opening(self);
+        str::from_utf8(&words[3..count - 1]).expect("a kind is a word")
+    }
+}
+
 /// `ok`, the kind and their tabs, filled up to a fixed width, and their count.
 #[inline]
 fn opening(kind: Kind) -> (&'static [u8; 12], usize) {

@@ -11,14 +11,14 @@ use crate::interface::{Interface, MAX_CONFLICTS, PROBE_NUM, Record, Stage};
 use crate::numbers::{Address, Hardware, Time};
 use crate::refusal::Refusal;
 
-const PROBE_MIN: u64 = 1_000;
+pub const PROBE_MIN: u64 = 1_000;
 const ANNOUNCE_WAIT: u64 = 2_000;
 const ANNOUNCE_INTERVAL: u64 = 2_000;
-const RATE_LIMIT_INTERVAL: u64 = 60_000;
-const DEFEND_INTERVAL: u64 = 10_000;
+pub const RATE_LIMIT_INTERVAL: u64 = 60_000;
+pub const DEFEND_INTERVAL: u64 = 10_000;
 /// The first wait runs over 0..=PROBE_WAIT and a probe gap over
 /// PROBE_MIN..=PROBE_MAX: 1,001 values each.
-const SPREAD: u32 = 1_001;
+pub const SPREAD: u32 = 1_001;
 
 /// What an accepted call did.
 #[derive(Clone, Copy, Debug, PartialEq, Eq)]
@@ -54,10 +54,28 @@ pub(crate) enum Known {
 }
 
 impl Kind {
+    pub const ALL: [Kind; 9] = [
+        Kind::Fresh,
+        Kind::Taken,
+        Kind::Nothing,
+        Kind::Probe,
+        Kind::Announce,
+        Kind::Defend,
+        Kind::Lost,
+        Kind::Kept,
+        Kind::Dropped,
+    ];
+
     /// Whether the call wrote a frame to the out buffer.
     #[inline]
     pub fn has_frame(self) -> bool {
         matches!(self, Kind::Probe | Kind::Announce | Kind::Defend)
+    }
+
+    /// Whether the call, a packet, was a conflict.
+    #[inline]
+    pub fn is_conflict(self) -> bool {
+        matches!(self, Kind::Defend | Kind::Lost | Kind::Kept)
     }
 }
 
@@ -214,11 +232,11 @@ impl Interface {
 
     /// "Count is 10, and a request was accepted less than 60,000 ms ago."
     #[inline]
-    fn is_rate_limited(&self, time: Time) -> bool {
+    pub fn is_rate_limited(&self, time: Time) -> bool {
         self.conflicts == MAX_CONFLICTS
             && self
                 .request
-                .is_some_and(|request| time.since(request) < RATE_LIMIT_INTERVAL)
+                .is_some_and(|request| time < request.plus(RATE_LIMIT_INTERVAL))
     }
 
     /// Sends the frame that a due slot's stage calls for. Every next deadline
@@ -273,7 +291,7 @@ impl Interface {
 
     /// The slot of that number, if there is one and it is not free.
     #[inline]
-    fn held_slot(&self, number: u64) -> Option<usize> {
+    pub fn held_slot(&self, number: u64) -> Option<usize> {
         let slot = usize::try_from(number).ok()?;
         self.slots.get(slot)?.is_held().then_some(slot)
     }
@@ -330,7 +348,7 @@ fn room(out: &mut [u8]) -> Result<&mut [u8; FRAME_LEN], Refusal> {
 
 /// A policy number compared whole: 1, 2 or 3.
 #[inline]
-fn known_policy(policy: u64) -> Option<u8> {
+pub fn known_policy(policy: u64) -> Option<u8> {
     (1..=3).contains(&policy).then_some(policy as u8)
 }
 

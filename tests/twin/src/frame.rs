@@ -7,7 +7,7 @@ use crate::refusal::Refusal;
 pub const FRAME_LEN: usize = 28;
 
 /// "A request of ours always begins with the eight bytes."
-const REQUEST: [u8; 8] = [0x00, 0x01, 0x08, 0x00, 0x06, 0x04, 0x00, 0x01];
+pub const REQUEST: [u8; 8] = [0x00, 0x01, 0x08, 0x00, 0x06, 0x04, 0x00, 0x01];
 
 /// How many of these are the same in every frame: types and lengths.
 const COMMON: usize = 6;
@@ -88,10 +88,10 @@ impl Frame {
     pub(crate) fn put(&self, out: &mut [u8; FRAME_LEN]) {
         out[..COMMON].copy_from_slice(&REQUEST[..COMMON]);
         out[6..8].copy_from_slice(&self.operation.to_be_bytes());
-        out[8..14].copy_from_slice(&self.sender_hardware.0.to_be_bytes()[2..]);
-        out[14..18].copy_from_slice(&self.sender_ip.0.to_be_bytes());
-        out[18..24].copy_from_slice(&self.target_hardware.0.to_be_bytes()[2..]);
-        out[24..28].copy_from_slice(&self.target_ip.0.to_be_bytes());
+        out[8..14].copy_from_slice(&self.sender_hardware.bytes());
+        out[14..18].copy_from_slice(&self.sender_ip.bytes());
+        out[18..24].copy_from_slice(&self.target_hardware.bytes());
+        out[24..28].copy_from_slice(&self.target_ip.bytes());
     }
 }
 
@@ -103,14 +103,14 @@ fn is_operation(operation: u16) -> bool {
 
 #[inline]
 fn hardware_at(frame: &[u8; FRAME_LEN], at: usize) -> Hardware {
-    let mut number = [0; 8];
-    number[2..].copy_from_slice(&frame[at..at + 6]);
-    Hardware(u64::from_be_bytes(number))
+    let mut bytes = [0; 6];
+    bytes.copy_from_slice(&frame[at..at + 6]);
+    Hardware::from_bytes(bytes)
 }
 
 #[inline]
 fn address_at(frame: &[u8; FRAME_LEN], at: usize) -> Address {
-    let mut number = [0; 4];
-    number.copy_from_slice(&frame[at..at + 4]);
-    Address(u32::from_be_bytes(number))
+    let mut bytes = [0; 4];
+    bytes.copy_from_slice(&frame[at..at + 4]);
+    Address::from_bytes(bytes)
 }

@@ -70,6 +70,17 @@ pub(crate) fn encode(frame: &[u8; FRAME_LEN]) -> [u8; FRAME_DIGITS] {
     digits
 }
 
+/// Appends two digits for each byte.
+pub(crate) fn write(bytes: &[u8], text: &mut Vec<u8>) {
+    let (fours, rest) = bytes.as_chunks();
+    for four in fours {
+        text.extend_from_slice(&encode_four(*four));
+    }
+    for byte in rest {
+        text.extend_from_slice(&encode_four([*byte, 0, 0, 0])[..2]);
+    }
+}
+
 /// Four bytes to eight digits: spread to nibbles, then to text.
 #[inline]
 fn encode_four(bytes: [u8; 4]) -> [u8; 8] {

@@ -6,7 +6,7 @@ use crate::numbers::{Address, Hardware, Time};
 pub const SLOTS: usize = 4;
 
 /// MAX_CONFLICTS, the highest conflict count.
-pub(crate) const MAX_CONFLICTS: u8 = 10;
+pub const MAX_CONFLICTS: u8 = 10;
 /// PROBE_NUM, the most probes a record has sent.
 pub(crate) const PROBE_NUM: u8 = 3;
 /// No deadline is ever set further ahead than this many milliseconds.
@@ -89,21 +89,33 @@ impl Interface {
         differ(0, 1) & differ(0, 2) & differ(0, 3) & differ(1, 2) & differ(1, 3) & differ(2, 3)
     }
 
+    /// The records that are not free.
+    #[inline]
+    pub fn records(&self) -> impl Iterator<Item = &Record> {
+        self.slots.iter().filter(|slot| slot.is_held())
+    }
+
     /// Whether some slot holds the address.
     #[inline]
-    pub(crate) fn holds(&self, address: Address) -> bool {
+    pub fn holds(&self, address: Address) -> bool {
         self.slots.iter().any(|slot| slot.held() == Some(address))
     }
 
     #[inline]
-    pub(crate) fn lowest_free_slot(&self) -> Option<usize> {
+    pub fn lowest_free_slot(&self) -> Option<usize> {
         self.slots.iter().position(|slot| !slot.is_held())
+    }
+
+    /// The deadlines, in the order of the slots.
+    #[inline]
+    pub fn deadlines(&self) -> impl Iterator<Item = Time> {
+        self.slots.iter().filter_map(|slot| slot.stage.deadline())
     }
 
     /// The slot with the earliest deadline of a sound state, the lowest on a
     /// tie.
     #[inline]
-    pub(crate) fn earliest(&self) -> Option<(usize, Time)> {
+    pub fn earliest(&self) -> Option<(usize, Time)> {
         let mut least = (0, NO_DEADLINE);
         for (slot, record) in self.slots.iter().enumerate() {
             let deadline = record.stage.deadline().unwrap_or(NO_DEADLINE);
@@ -116,7 +128,7 @@ impl Interface {
 
     /// "The smallest deadline left or none."
     #[inline]
-    pub(crate) fn next_deadline(&self) -> Option<Time> {
+    pub fn next_deadline(&self) -> Option<Time> {
         self.earliest().map(|(_, deadline)| deadline)
     }
 }
@@ -154,6 +166,21 @@ impl Stage {
         match *self {
             Stage::Probing { deadline, .. } | Stage::Announced { deadline, .. } => Some(deadline),
             Stage::Free | Stage::Settled { .. } => None,
+        }
+    }
+
+    /// "The last two stages are *usable*."
+    #[inline]
+    pub fn is_usable(&self) -> bool {
+        matches!(self, Stage::Announced { .. } | Stage::Settled { .. })
+    }
+
+    /// The time of the last conflict seen in use.
+    #[inline]
+    pub fn conflict(&self) -> Option<Time> {
+        match *self {
+            Stage::Announced { conflict, .. } | Stage::Settled { conflict } => conflict,
+            Stage::Free | Stage::Probing { .. } => None,
         }
     }
 

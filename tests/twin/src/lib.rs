@@ -16,10 +16,13 @@ mod refusal;
 mod replay;
 mod scan;
 
-pub use calls::{Answer, Kind};
+pub use calls::{
+    Answer, DEFEND_INTERVAL, Kind, PROBE_MIN, RATE_LIMIT_INTERVAL, SPREAD, known_policy,
+};
 pub use clock::{Widened, widen};
-pub use frame::{FRAME_LEN, Frame};
-pub use interface::{Interface, Record, SLOTS, Stage};
+pub use frame::{FRAME_LEN, Frame, REQUEST};
+pub use interface::{Interface, MAX_CONFLICTS, Record, SLOTS, Stage};
+pub use line::{Call, DIGITS_MAX, Digits, LINE_MAX, WORDS};
 pub use numbers::{Address, Hardware, Time};
 pub use refusal::Refusal;
 pub use replay::{Replay, replay, replay_with};

@@ -1,19 +1,26 @@
 //! "Replay lines": the forms of a record and of its fields.
 
+use std::fmt::Arguments;
+use std::io::Write;
+
 use crate::hex;
 use crate::numbers::{Address, Hardware, Time};
 
 /// "At most 4,096 bytes before" byte 10.
-pub(crate) const LINE_MAX: usize = 4_096;
+pub const LINE_MAX: usize = 4_096;
 /// "An even count of digits from 0 to 3,000."
-const DIGITS_MAX: usize = 3_000;
+pub const DIGITS_MAX: usize = 3_000;
 /// "Hardware exactly 12 digits."
 const HARDWARE_DIGITS: usize = 12;
 const TAB: u8 = b'\t';
 
-/// A line in the form: a call and its arguments.
-#[derive(Clone, Copy)]
-pub(crate) enum Call<'a> {
+/// The words that lines begin with.
+pub const WORDS: [&str; 5] = ["fresh", "ask", "tick", "packet", "drop"];
+
+/// A call and its arguments, as a line gives them. `B` is what a packet's bytes
+/// are kept as.
+#[derive(Clone, Copy, Debug, PartialEq, Eq)]
+pub enum Call<B> {
     Fresh {
         hardware: Hardware,
     },
@@ -27,10 +34,9 @@ pub(crate) enum Call<'a> {
         time: Time,
         draw: u32,
     },
-    /// The digits are a part of the line, tested but not yet decoded.
     Packet {
         time: Time,
-        digits: &'a [u8],
+        bytes: B,
     },
     Drop {
         time: Time,
@@ -38,10 +44,75 @@ pub(crate) enum Call<'a> {
     },
 }
 
-impl<'a> Call<'a> {
+/// A packet's digits, a part of the line, tested but not yet decoded.
+#[derive(Clone, Copy, Debug, PartialEq, Eq)]
+pub struct Digits<'a>(pub(crate) &'a [u8]);
+
+impl<B> Call<B> {
+    /// What its line begins with.
+    pub fn word(&self) -> &'static str {
+        let place = match self {
+            Call::Fresh { .. } => 0,
+            Call::Ask { .. } => 1,
+            Call::Tick { .. } => 2,
+            Call::Packet { .. } => 3,
+            Call::Drop { .. } => 4,
+        };
+        WORDS[place]
+    }
+
+    /// Its time; a fresh has none.
+    pub fn time(&self) -> Option<Time> {
+        match *self {
+            Call::Fresh { .. } => None,
+            Call::Ask { time, .. }
+            | Call::Tick { time, .. }
+            | Call::Packet { time, .. }
+            | Call::Drop { time, .. } => Some(time),
+        }
+    }
+
+    /// The same, to be changed.
+    pub fn time_mut(&mut self) -> Option<&mut Time> {
+        match self {
+            Call::Fresh { .. } => None,
+            Call::Ask { time, .. }
+            | Call::Tick { time, .. }
+            | Call::Packet { time, .. }
+            | Call::Drop { time, .. } => Some(time),
+        }
+    }
+}
+
+impl<B: AsRef<[u8]>> Call<B> {
+    /// Appends the line, without its byte 10.
+    pub fn write(&self, line: &mut Vec<u8>) {
+        line.extend_from_slice(self.word().as_bytes());
+        if let Some(Time(time)) = self.time() {
+            put(line, format_args!("\t{time}"));
+        }
+        match self {
+            Call::Fresh { hardware } => put(line, format_args!("\t{hardware}")),
+            Call::Ask {
+                address,
+                policy,
+                draw,
+                ..
+            } => put(line, format_args!("\t{address}\t{policy}\t{draw}")),
+            Call::Tick { draw, .. } => put(line, format_args!("\t{draw}")),
+            Call::Packet { bytes, .. } => {
+                line.push(TAB);
+                hex::write(bytes.as_ref(), line);
+            }
+            Call::Drop { slot, .. } => put(line, format_args!("\t{slot}")),
+        }
+    }
+}
+
+impl<'a> Call<Digits<'a>> {
     /// Reads a line without its byte 10. None: not in the form.
     #[inline]
-    pub(crate) fn read(line: &'a [u8]) -> Option<Call<'a>> {
+    pub fn read(line: &'a [u8]) -> Option<Self> {
         if line.len() > LINE_MAX {
             return None;
         }
@@ -56,8 +127,12 @@ impl<'a> Call<'a> {
     }
 }
 
+fn put(line: &mut Vec<u8>, fields: Arguments) {
+    line.write_fmt(fields).expect("memory takes all");
+}
+
 #[inline]
-fn fresh(fields: &[u8]) -> Option<Call<'_>> {
+fn fresh<'a>(fields: &[u8]) -> Option<Call<Digits<'a>>> {
     let in_form = fields.len() == HARDWARE_DIGITS && hex::is_hex(fields);
     in_form.then(|| Call::Fresh {
         hardware: Hardware(hex::number(fields)),
@@ -65,7 +140,7 @@ fn fresh(fields: &[u8]) -> Option<Call<'_>> {
 }
 
 #[inline]
-fn ask<'a>(line: &[u8], fields: &[u8]) -> Option<Call<'a>> {
+fn ask<'a>(line: &[u8], fields: &[u8]) -> Option<Call<Digits<'a>>> {
     let (time, fields) = number_before(TAB, fields)?;
     let (address, fields) = address_before_tab(fields)?;
     let (policy, fields) = number_before(TAB, fields)?;
@@ -78,7 +153,7 @@ fn ask<'a>(line: &[u8], fields: &[u8]) -> Option<Call<'a>> {
 }
 
 #[inline]
-fn tick<'a>(line: &[u8], fields: &[u8]) -> Option<Call<'a>> {
+fn tick<'a>(line: &[u8], fields: &[u8]) -> Option<Call<Digits<'a>>> {
     let (time, fields) = number_before(TAB, fields)?;
     Some(Call::Tick {
         time: Time(time),
@@ -87,18 +162,18 @@ fn tick<'a>(line: &[u8], fields: &[u8]) -> Option<Call<'a>> {
 }
 
 #[inline]
-fn packet(fields: &[u8]) -> Option<Call<'_>> {
+fn packet(fields: &[u8]) -> Option<Call<Digits<'_>>> {
     let (time, digits) = number_before(TAB, fields)?;
     let in_form =
         digits.len() <= DIGITS_MAX && digits.len().is_multiple_of(2) && hex::is_hex(digits);
     in_form.then_some(Call::Packet {
         time: Time(time),
-        digits,
+        bytes: Digits(digits),
     })
 }
 
 #[inline]
-fn drop<'a>(line: &[u8], fields: &[u8]) -> Option<Call<'a>> {
+fn drop<'a>(line: &[u8], fields: &[u8]) -> Option<Call<Digits<'a>>> {
     let (time, fields) = number_before(TAB, fields)?;
     Some(Call::Drop {
         time: Time(time),
@@ -119,8 +194,7 @@ fn address_before_tab(text: &[u8]) -> Option<(Address, &[u8])> {
     let (second, text) = part_before(b'.', text)?;
     let (third, text) = part_before(b'.', text)?;
     let (fourth, text) = part_before(TAB, text)?;
-    let address = u32::from_be_bytes([first, second, third, fourth]);
-    Some((Address(address), text))
+    Some((Address::from_bytes([first, second, third, fourth]), text))
 }
 
 #[inline]

@@ -1,5 +1,7 @@
 //! "An IPv4 address, a time and a hardware address are never interchangeable."
 
+use std::fmt;
+
 /// An IPv4 address, its first byte the most significant.
 #[derive(Clone, Copy, Debug, PartialEq, Eq, PartialOrd, Ord, Default)]
 pub struct Address(pub u32);
@@ -15,6 +17,16 @@ pub struct Hardware(pub u64);
 
 impl Address {
     pub const ZERO: Address = Address(0);
+
+    #[inline]
+    pub fn from_bytes(bytes: [u8; 4]) -> Address {
+        Address(u32::from_be_bytes(bytes))
+    }
+
+    #[inline]
+    pub fn bytes(self) -> [u8; 4] {
+        self.0.to_be_bytes()
+    }
 
     /// "An allowed address has a first byte from 1 to 223, 127 excepted."
     #[inline]
@@ -35,19 +47,31 @@ impl Time {
 
     /// The time `ms` later. It may lie above the range, as a deadline can.
     #[inline]
-    pub(crate) fn plus(self, ms: u64) -> Time {
+    pub fn plus(self, ms: u64) -> Time {
         Time(self.0 + ms)
     }
 
     /// Milliseconds since `earlier`, which is no later than this time.
     #[inline]
-    pub(crate) fn since(self, earlier: Time) -> u64 {
+    pub fn since(self, earlier: Time) -> u64 {
         self.0 - earlier.0
     }
 }
 
 impl Hardware {
     pub const ZERO: Hardware = Hardware(0);
+
+    #[inline]
+    pub fn from_bytes([a, b, c, d, e, f]: [u8; 6]) -> Hardware {
+        Hardware(u64::from_be_bytes([0, 0, a, b, c, d, e, f]))
+    }
+
+    /// The bytes of its 48 bits.
+    #[inline]
+    pub fn bytes(self) -> [u8; 6] {
+        let [_, _, bytes @ ..] = self.0.to_be_bytes();
+        bytes
+    }
 
     /// Whether this number is a hardware address at all: 48 bits.
     #[inline]
@@ -59,5 +83,20 @@ impl Hardware {
     #[inline]
     pub fn can_be_own(self) -> bool {
         self.is_48_bits() && self.0 != 0 && (self.0 >> 40) & 1 == 0
+    }
+}
+
+/// "Four such numbers up to 255, parted by dots."
+impl fmt::Display for Address {
+    fn fmt(&self, text: &mut fmt::Formatter) -> fmt::Result {
+        let [first, second, third, fourth] = self.bytes();
+        write!(text, "{first}.{second}.{third}.{fourth}")
+    }
+}
+
+/// "Hardware exactly 12 digits."
+impl fmt::Display for Hardware {
+    fn fmt(&self, text: &mut fmt::Formatter) -> fmt::Result {
+        write!(text, "{:012x}", self.0)
     }
 }

@@ -21,6 +21,24 @@ pub enum Refusal {
 }
 
 impl Refusal {
+    /// The rows of the table.
+    pub const ALL: [Refusal; 14] = [
+        Refusal::StateNotSound,
+        Refusal::OwnHardware,
+        Refusal::TimeAboveRange,
+        Refusal::TimeBelowLatest,
+        Refusal::OutTooShort,
+        Refusal::PacketTooShort,
+        Refusal::NotOurFrame,
+        Refusal::AddressNotAllowed,
+        Refusal::PolicyUnknown,
+        Refusal::AddressHeld,
+        Refusal::NoSlotFree,
+        Refusal::TooManyConflicts,
+        Refusal::SlotNotHeld,
+        Refusal::LineNotInForm,
+    ];
+
     /// The number of the table.
     #[inline]
     pub fn number(self) -> u8 {

@@ -59,9 +59,14 @@ impl Replay {
         }
     }
 
+    /// The state that the lines so far have made.
+    pub fn interface(&self) -> &Interface {
+        &self.interface
+    }
+
     /// Makes the call that the line asks for.
     #[inline]
-    fn call(
+    pub fn call(
         &mut self,
         line: &[u8],
         out: &mut [u8; FRAME_LEN],
@@ -83,9 +88,9 @@ impl Replay {
                 draw,
             } => interface.ask_with(self.known, time, address, policy, draw),
             Call::Tick { time, draw } => interface.tick_with(self.known, time, draw, out),
-            Call::Packet { time, digits } => {
+            Call::Packet { time, bytes } => {
                 let mut head = [0; FRAME_LEN];
-                interface.packet_with(self.known, time, hex::decode_head(digits, &mut head), out)
+                interface.packet_with(self.known, time, hex::decode_head(bytes.0, &mut head), out)
             }
             Call::Drop { time, slot } => interface.drop_with(self.known, time, slot),
         }

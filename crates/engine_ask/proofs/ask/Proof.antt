@@ -23,5 +23,7 @@ ask-spec =
     (λ c. search needs)
     (λ c κs. search needs)
     new-claim-requires
+    (λ c κs. search needs)
+    (λ c κs. search needs)
     returns
     returns-2)

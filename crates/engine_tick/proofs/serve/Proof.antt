@@ -8,4 +8,4 @@ returns : tie.Need-returns
 returns c = search slot-served
 
 pub serve-spec : {M : Type 1} → statement M
-serve-spec = tie.close (tie.spec (λ c κs. search needs) (λ c κs. search needs) (λ c κs. search needs) returns)
+serve-spec = tie.close (tie.spec (λ c κs. search needs) (λ c κs. search needs) (λ c κs. search needs) (λ c κs. search needs) returns)

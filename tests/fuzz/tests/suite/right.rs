@@ -7,6 +7,7 @@ use fuzz::fixed::Fixed;
 use fuzz::fuzz::{LINES_FOR_ALL_PLACES, Run};
 use fuzz::generator::Generator;
 use fuzz::random::Random;
+use twin::Replay;
 
 #[test]
 fn a_right_replay_passes_and_every_place_is_reached() {
@@ -44,7 +45,12 @@ fn the_twin_answers_lines_as_it_answers_inputs() {
     for _ in 0..100 {
         generator.history(200);
     }
-    assert!(expected(&generator.input) == generator.answers);
+    let (mut replay, mut answers) = (Replay::new(), Vec::new());
+    let lines = generator.input.strip_suffix(b"\n").expect("ended");
+    for line in lines.split(|byte| *byte == b'\n') {
+        replay.answer(line, &mut answers);
+    }
+    assert!(expected(&generator.input) == answers);
 }
 
 #[test]
