@@ -33,7 +33,7 @@ use Rattle.parse_command.specs.declared.Form.{Form}
 use Rattle.parse_command.specs.declared.Form.the-variants as Form
 use Rattle.parse_command.specs.declared.Word.{Word}
 use Rattle.parse_command.specs.declared.Word.the-variants as Word
-use Rattle.parse_command.specs.Words.{rowOf, timedCall, wordCall}
+use Rattle.parse_command.specs.Words.{rowOf, timedCall, wordCall, startOf}
 
 -- A command without bytes.
 whole-command : (command : Command) → asked command [] ≡ Option·map headed (asked command [])
@@ -157,8 +157,17 @@ module _ (word line : List ℕ) (b : Bool) (told : b ≡ begun (withTab word) li
 
 -- The first word.
 pub timed-word : (form : Form) (line : List ℕ) (b : Bool) → b ≡ begun (withTab (rowOf form .word)) line → b ≡ true
-    → callIn (parts tab line) ≡ wordCall (Word.Timed form (length (rowOf form .word))) line
+    → callIn (parts tab line) ≡ wordCall (Word.Timed form (suc (length (rowOf form .word)))) line
 timed-word form line b told is = begun-line (rowOf form .word) line b told is _ (timed-form form)
+
+pub within : (form : Form) (line : List ℕ) (b : Bool) → b ≡ begun (withTab (rowOf form .word)) line → b ≡ true → suc (length (rowOf form .word)) ≤ length line
+within form line b told is =
+    omega (
+      arith,
+      ap length (begun-is (withTab (rowOf form .word)) line (sym told ∙ is)),
+      length-append (withTab (rowOf form .word)) (drop (length (withTab (rowOf form .word))) line),
+      length-append (rowOf form .word) (tab ∷ []),
+    )
 
 pub fresh-word : (line : List ℕ) (b : Bool) → b ≡ begun (withTab freshWord) line → b ≡ true → callIn (parts tab line) ≡ wordCall Word.Fresh line
 fresh-word line b told is = begun-line freshWord line b told is _ fresh-form
@@ -200,11 +209,11 @@ module _ (line head : List ℕ) (short : length line ≤ longestLine) (word : Wo
       ∙ told
       ∙ ap (λ w. wordCall w line) is)
 
-  pub timed-line : (form : Form) (end : ℕ) → word ≡ Word.Timed form end → (rest : List ℕ) → rest ≡ drop (suc end) line
+  pub timed-line : (form : Form) (start : ℕ) → word ≡ Word.Timed form start → (rest : List ℕ) → rest ≡ drop start line
       → Makes p head (ifCount (rowOf form .count) (timedCall (rowOf form)) ([] ∷ parts tab rest)) → Makes p head (callOf line)
-  timed-line form end is rest behind =
+  timed-line form start is rest behind =
       subst (Makes p head)
-      (ap (λ l. ifCount (rowOf form .count) (timedCall (rowOf form)) ([] ∷ parts tab l)) behind ∙ whole-line (Word.Timed form end) is)
+      (ap (λ l. ifCount (rowOf form .count) (timedCall (rowOf form)) ([] ∷ parts tab l)) behind ∙ whole-line (Word.Timed form start) is)
 
   pub fresh-line : word ≡ Word.Fresh → (rest : List ℕ) → rest ≡ drop (suc (length freshWord)) line → (command : Command)
       → (p .command ≡ command) × (p .count ≡ 0) → asked command [] ≡ ifCount 2 freshCall ([] ∷ parts tab rest) → Makes p head (callOf line)
@@ -214,3 +223,6 @@ module _ (line head : List ℕ) (short : length line ≤ longestLine) (word : Wo
 
   pub other-line : word ≡ Word.Other → (p .command ≡ Command.Malformed) × (p .count ≡ 0) → Makes p head (callOf line)
   other-line is same = plain-makes p Command.Malformed same head (callOf line) (whole-line Word.Other is)
+
+pub start-fits : (word : Word) (n : ℕ) → startOf word ≤ n → (form : Form) (start : ℕ) → word ≡ Word.Timed form start → start ≤ n
+start-fits word n fits form start is = subst (λ w. startOf w ≤ n) is fits

@@ -31,6 +31,12 @@ timedCall row fields = time (field 1 fields) then λ t. row .call t fields
 
 -- What a line with this first word makes, by what stands behind the word.
 abbrev pub wordCall : Word → List ℕ → Option Invocation
-wordCall (Word.Timed form end) line = ifCount (rowOf form .count) (timedCall (rowOf form)) ([] ∷ parts tab (drop (suc end) line))
+wordCall (Word.Timed form start) line = ifCount (rowOf form .count) (timedCall (rowOf form)) ([] ∷ parts tab (drop start line))
 wordCall Word.Fresh line = ifCount 2 freshCall ([] ∷ parts tab (drop (suc (length freshWord)) line))
 wordCall Word.Other line = none
+
+-- Where the fields of a form with a time start.
+abbrev pub startOf : Word → ℕ
+startOf (Word.Timed form start) = start
+startOf Word.Fresh = 0
+startOf Word.Other = 0

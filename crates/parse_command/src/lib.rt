@@ -8,12 +8,14 @@ use parse_forms::LARGEST;
 use parse_forms::Parsed;
 use parse_forms::TAB;
 use parse_numbers::Reading;
+ghost use Prim.Native.Nat.{_≤_};
 ghost use mathlib.Core.Path.{_≡_};
 ghost use mathlib.Core.List.{[], _∷_};
+ghost use lib.ListN.{length};
 ghost use Rattle.basis_lines.specs.Fields.{tab, parts};
 ghost use Rattle.basis_lines.specs.Forms.{callIn, callOf};
 ghost use Rattle.parse_forms.specs.Commands.{Makes, ifCount};
-ghost use Rattle.parse_command.specs.Words.{rowOf, timedCall, wordCall};
+ghost use Rattle.parse_command.specs.Words.{rowOf, timedCall, wordCall, startOf};
 
 // The forms whose word a time follows.
 enum Form {
@@ -23,9 +25,9 @@ enum Form {
     Drop,
 }
 
-// A line's first word, with its tab: that of a form with a time, and how long it is; `fresh`; or any other.
+// A line's first word, with its tab: that of a form with a time, and where its fields start; `fresh`; or any other.
 enum Word {
-    Timed { form: Form, length: usize },
+    Timed { form: Form, start: usize },
     Fresh,
     Other,
 }
@@ -33,26 +35,27 @@ enum Word {
 // The most frequent first.
 fn word_of(line: &[u8]) -> Word
     ensures { λ r. ⌜ callIn (parts tab (now (line .entry))) ≡ wordCall r (now (line .entry)) ⌝ }
+    ensures { λ r. ⌜ startOf r ≤ length (now (line .entry)) ⌝ }
 {
     if parse_fields::begins(line, b"tick\t") {
         Word::Timed {
             form: Form::Tick,
-            length: 4,
+            start: 5,
         }
     } else if parse_fields::begins(line, b"packet\t") {
         Word::Timed {
             form: Form::Packet,
-            length: 6,
+            start: 7,
         }
     } else if parse_fields::begins(line, b"ask\t") {
         Word::Timed {
             form: Form::Ask,
-            length: 3,
+            start: 4,
         }
     } else if parse_fields::begins(line, b"drop\t") {
         Word::Timed {
             form: Form::Drop,
-            length: 4,
+            start: 5,
         }
     } else if parse_fields::begins(line, b"fresh\t") {
         Word::Fresh
@@ -108,11 +111,7 @@ pub fn parse(line: &[u8], head: &mut [u8; FRAME_LENGTH]) -> Parsed
         plain(Command::Malformed)
     } else {
         match word_of(line) {
-            Word::Timed { form, length } => read_timed(
-                form,
-                parse_fields::behind(line, length),
-                head,
-            ),
+            Word::Timed { form, start } => read_timed(form, parse_fields::rest(line, start), head),
             Word::Fresh => plain(parse_forms::fresh(parse_fields::behind(line, 5))),
             Word::Other => plain(Command::Malformed),
         }

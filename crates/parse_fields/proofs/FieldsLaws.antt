@@ -124,10 +124,12 @@ module _ (s : ℕ) (text : List ℕ) (end : ℕ) (is : end ≡ endFrom s text 0)
       found : end ≡ length (firstPart s text)
       found = omega (arith, is)
 
--- A part up to the end, as what is left behind a place.
+-- A part up to the end, as what is left from a place on, or behind it.
+pub rest-from : (place : ℕ) (text : List ℕ) → take (length text - place) (drop place text) ≡ drop place text
+rest-from place text = take-all (length text - place) (drop place text) (omega (arith, length-drop place text))
+
 pub rest-behind : (place : ℕ) (text : List ℕ) → take (length text - (place + 1)) (drop (place + 1) text) ≡ drop (suc place) text
-rest-behind place text =
-    take-all (length text - (place + 1)) (drop (place + 1) text) (omega (arith, length-drop (place + 1) text)) ∙ ap (λ k. drop k text) (add-one place)
+rest-behind place text = rest-from (place + 1) text ∙ ap (λ k. drop k text) (add-one place)
 
 pub nothing-behind : (place : ℕ) (text : List ℕ) → length text ≤ place
     → take (length text - length text) (drop (length text) text) ≡ drop (suc place) text

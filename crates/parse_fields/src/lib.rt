@@ -97,6 +97,14 @@ pub fn part(text: &[u8], separator: u8) -> &[u8]
     &text[..end]
 }
 
+// What is left of a text from a place on.
+pub fn rest(text: &[u8], place: usize) -> &[u8]
+    requires { ⌜ place ≤ length (now text) ⌝ }
+    ensures { λ r. ⌜ now r ≡ drop place (now (text .entry)) ⌝ }
+{
+    &text[place..]
+}
+
 // What stands behind a place of a text: nothing behind its last byte.
 pub fn behind(text: &[u8], place: usize) -> &[u8]
     ensures { λ r. ⌜ now r ≡ drop (suc place) (now (text .entry)) ⌝ }

@@ -12,7 +12,7 @@ use Rattle.basis_lines.specs.Fields.{tab, newline}
 use Rattle.basis_lines.specs.Numbers.{decimal, hexText}
 use Rattle.basis_lines.specs.Answers.{refusedWord, dash, numberText, refusedText}
 use Rattle.print_digits.specs.Put.{Put}
-use Rattle.print_answer.specs.AcceptedText.{shown}
+use Rattle.print_answer.specs.AcceptedText.{shown, frameField}
 use Rattle.basis_lines.proofs.HexLaws.{hex-length}
 use Rattle.print_kind.proofs.KindLaws.{put-as}
 use Rattle.print_answer.proofs.Puts.{put-append}
@@ -23,10 +23,10 @@ module _ {m at next : ℕ} {old new : List ℕ} where
   none-put e p = rw e (put-as refl (lit≤ tt) p)
 
   pub shown-put : (sent : Bool) (frame : List ℕ) → sent ≡ true → length frame ≡ frameLength → Put (tab ∷ hexText frame) m at old new next →
-      Put (tab ∷ shown sent frame) 57 at old new next
+      Put (tab ∷ shown sent frame) frameField at old new next
   shown-put sent frame e long p = rw e (put-as refl (omega (arith, hex-length frame)) p)
 
-  pub hidden-put : (sent : Bool) (frame : List ℕ) → sent ≡ false → Put (tab ∷ dash) m at old new next → Put (tab ∷ shown sent frame) 57 at old new next
+  pub hidden-put : (sent : Bool) (frame : List ℕ) → sent ≡ false → Put (tab ∷ dash) m at old new next → Put (tab ∷ shown sent frame) frameField at old new next
   hidden-put sent frame e p = rw e (put-as refl (lit≤ tt) p)
 
 pub some-put : {at next : ℕ} {old new : List ℕ} {number : Option ℕ} {n : ℕ} → number ≡ some n → Put (tab ∷ decimal n) 21 at old new next →

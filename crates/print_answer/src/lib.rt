@@ -13,7 +13,7 @@ ghost use Rattle.basis_lines.specs.Fields.{tab, newline};
 ghost use Rattle.basis_lines.specs.Numbers.{decimal};
 ghost use Rattle.basis_lines.specs.Answers.{dash, numberText, refusedText, longestAnswer, written};
 ghost use Rattle.print_digits.specs.Put.{Put};
-ghost use Rattle.print_answer.specs.AcceptedText.{shown, acceptedWith};
+ghost use Rattle.print_answer.specs.AcceptedText.{shown, frameField, acceptedWith};
 
 // Puts a tab and a number at a place, and answers the place after it. So do the others named `put`.
 fn put_number(n: u64, out: &mut [u8], at: usize) -> usize
@@ -56,8 +56,8 @@ fn put_next(next: Moment, out: &mut [u8], at: usize) -> usize
 
 // The frame in hex, if one was sent.
 fn put_frame(sent: bool, frame: &[u8; FRAME_LENGTH], out: &mut [u8], at: usize) -> usize
-    requires { ⌜ at + 57 ≤ length (now out) ⌝ }
-    ensures { λ r. ⌜ Put (tab ∷ shown sent (now (frame .entry))) 57 at (now (out .entry)) (now (out .exit)) r ⌝ }
+    requires { ⌜ at + frameField ≤ length (now out) ⌝ }
+    ensures { λ r. ⌜ Put (tab ∷ shown sent (now (frame .entry))) frameField at (now (out .entry)) (now (out .exit)) r ⌝ }
 {
     if sent {
         out[at] = b'\t';

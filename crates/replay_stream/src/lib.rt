@@ -49,7 +49,7 @@ fn line_at(input: &[u8], at: usize) -> &[u8]
     requires { ⌜ at ≤ length (now input) ⌝ }
     ensures { λ r. ⌜ now r ≡ firstPart newline (drop at (now (input .entry))) ⌝ }
 {
-    parse_fields::part(&input[at..], b'\n')
+    parse_fields::part(parse_fields::rest(input, at), b'\n')
 }
 
 // Whether a state is sound, where it may be known already that it is. No call makes a sound state unsound, so the lines of an

@@ -1,8 +1,11 @@
 -- `parse_command::parse`: a line that is too long, and each first word.
 use borrow.Author.Needs.{needs}
-use Rattle.parse_command.proofs.CommandLaws.{too-long, timed-line, fresh-line, other-line}
+use Rattle.parse_command.proofs.CommandLaws.{too-long, timed-line, fresh-line, other-line, start-fits}
 use Rattle.parse_command.proofs.parse.Statement.{statement}
 use Rattle.parse_command.proofs.parse.Tie as tie
+
+rest-requires : tie.Need-rest-requires
+rest-requires c κs = search (start-fits, needs)
 
 returns : tie.Need-returns
 returns c = search (too-long, needs)
@@ -23,7 +26,7 @@ parse-spec =
     (λ c κs. search needs)
     (λ c κs. search needs)
     (λ c. search needs)
-    (λ c κs. search needs)
+    rest-requires
     (λ c κs. search needs)
     (λ c. search needs)
     (λ c κs. search needs)

@@ -2,21 +2,11 @@
 use borrow.Author.Needs.{needs}
 use mathlib.Core.Path.{ap, _∙_}
 use Rattle.basis_lines.specs.Fields.{newline, firstPart}
-use Rattle.replay_stream.proofs.Places.{rest-of}
 use Rattle.replay_stream.proofs.line_at.Statement.{statement}
 use Rattle.replay_stream.proofs.line_at.Tie as tie
 
 returns : tie.Need-returns
-returns c =
-    let a = c .before .before .before .args in
-    c .part .ensures ∙ ap (firstPart newline) (rest-of (a .at) (a .input .now))
+returns c = c .part .ensures ∙ ap (firstPart newline) (c .before .rest .ensures)
 
 pub line-at-spec : {M : Type 1} → statement M
-line-at-spec =
-    tie.close
-    (tie.spec
-    (λ c. search needs)
-    (λ c. search needs)
-    (λ c. search needs)
-    (λ c κs. search needs)
-    returns)
+line-at-spec = tie.close (tie.spec (λ c κs. search needs) (λ c κs. search needs) returns)

@@ -57,9 +57,10 @@ is-sound-requires : tie.Need-is-sound-requires Inv-loop μ-loop
 is-sound-requires c κs = c .before .before .before .loop .inv .1
 
 answer-line-requires : tie.Need-answer-line-requires Inv-loop μ-loop
-answer-line-requires c κs =
-    let looped = c .before .before .before .before .before .loop in
-    (c .before .is-sound .ensures, rw (rest-of (looped .done) (looped .out), length-drop) (omega (arith, c .before .before .if3 .left)))
+answer-line-requires c κs = (
+  c .before .is-sound .ensures,
+  simp (rest-of, length-drop) (omega (arith, c .before .before .if3 .left)),
+)
 
 add-at : tie.Need-add-at Inv-loop μ-loop
 add-at c = omega arith
