@@ -7,11 +7,9 @@ use mathlib.Core.Option.{Option, none, some}
 use native.Mathlib.Omega.{arith}
 use lib.ListN.{length, length-append}
 use lib.Pow.{areBytes}
-use Rattle.basis.specs.Answers.{Report, refused, accepted, Accepted, kindWord}
+use Rattle.basis.specs.Answers.{Report, refused, accepted, Accepted}
 use Rattle.basis.specs.Frame.{frameBytes}
 use Rattle.basis.specs.declared.Frame.{Frame}
-use Rattle.basis.specs.declared.Kind.{Kind}
-use Rattle.basis.specs.declared.Kind.the-variants.{Fresh, Taken, Nothing, Probe, Announce, Defend, Lost, Kept, Dropped}
 use Rattle.basis.specs.declared.Interface.{Interface}
 use Rattle.basis.proofs.AnswersLaws.{kind-at-most}
 use Rattle.basis.proofs.FrameLaws.{frame-length}

@@ -1,7 +1,7 @@
 -- A law for each way that a function ends.
-use Prim.Native.Nat.{ℕ, _≤_, _<_}
-use mathlib.Core.Path.{_≡_, refl, _∙_}
-use mathlib.Core.List.{List, [], _∷_}
+use Prim.Native.Nat.{ℕ}
+use mathlib.Core.Path.{_≡_, refl}
+use mathlib.Core.List.{List}
 use Rattle.basis.specs.Answers.{refusalNumber, slotOf, timeOf, answerReport}
 use Rattle.basis.specs.Frame.{writeOut}
 use Rattle.basis.specs.declared.Frame.{Frame}

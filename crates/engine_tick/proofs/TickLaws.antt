@@ -1,6 +1,6 @@
 -- A law for each way that a function ends.
 use Prim.Native.Nat.{ℕ, _≤_}
-use mathlib.Core.Path.{_≡_, refl, _∙_}
+use mathlib.Core.Path.{_≡_, refl}
 use mathlib.Core.Option.{none, some}
 use lib.Dec.{ltb}
 use Rattle.basis.specs.Times.{lastTime}

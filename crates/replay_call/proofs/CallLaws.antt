@@ -6,7 +6,7 @@ use mathlib.Core.List.{List, _++_, append-nil}
 use mathlib.Core.Option.{Option, none, some}
 use native.Mathlib.Omega.{arith}
 use lib.ListN.{length, drop-of-length-le}
-use Rattle.basis.specs.Answers.{leaves, refused, accepted, Accepted, refusalNumber, slotOf, timeOf, answerReport}
+use Rattle.basis.specs.Answers.{leaves, Accepted, refusalNumber, slotOf, timeOf, answerReport}
 use Rattle.basis.proofs.AnswersLaws.{accepted-none}
 use Rattle.basis.specs.Frame.{frameLength, frameBytes, framePut}
 use Rattle.basis.specs.declared.Frame.{Frame}

@@ -5,7 +5,6 @@ use mathlib.Core.Bool.{Bool, true, false}
 use mathlib.Core.List.{List}
 use mathlib.Core.Option.{Option, none, some, Option·map}
 use lib.ListN.{length, take}
-use Rattle.basis.specs.Frame.{frameLength}
 use Rattle.basis.specs.declared.Time.{Time}
 use Rattle.basis.specs.declared.Interface.{Interface}
 use Rattle.basis.specs.declared.Call.{Call}
@@ -13,7 +12,7 @@ use Rattle.basis.specs.declared.Call.the-variants as Call
 use Rattle.basis_engine.specs.Machine.{refusalOf, outcomeOf, resultOf, Invocation}
 use Rattle.basis_engine.proofs.PacketHead.{outcome-head, result-head}
 use Rattle.basis_lines.specs.Forms.{made, callOf}
-use Rattle.basis_lines.specs.Answers.{Answered, written, malformed, answerTo, lineAnswer}
+use Rattle.basis_lines.specs.Answers.{written, malformed, answerTo, lineAnswer}
 use Rattle.basis_lines.specs.Stream.{endedAnswer}
 use Rattle.parse_forms.specs.Commands.{asked, headed, Makes}
 use Rattle.parse_forms.specs.declared.Command.{Command}
