@@ -13,7 +13,6 @@ use lib.Dec.{ltb}
 use lib.ListN.{length}
 use Rattle.basis.specs.Answers.{reported, leaves}
 use Rattle.basis.specs.Frame.{frameLength, frameOf, readRefusal}
-use Rattle.basis.specs.declared.Frame.{Frame}
 use Rattle.basis.specs.declared.Ipv4Address.{Ipv4Address}
 use Rattle.basis.specs.declared.Setup.{Setup}
 use Rattle.basis.specs.declared.Time.{Time}
@@ -40,8 +39,6 @@ use Rattle.engine_frames.proofs.FramesLaws.{probe-put, announcement-put}
 use Rattle.engine_admission.specs.declared.Check.{Check}
 use Rattle.engine_admission.specs.Rows.{checkOf, firstRows}
 use Rattle.engine_admission.proofs.Rows.{first-rows}
-use Rattle.engine_decisions.specs.declared.Outgoing.{Outgoing}
-use Rattle.engine_decisions.specs.declared.Outgoing.the-variants.{Send}
 use Rattle.engine_decisions.specs.declared.Decision.{Decision}
 use Rattle.engine_decisions.specs.Decisions.{frameIn, sentOut, answerWith, Decided, CarriedOut}
 use Rattle.engine_calls.specs.Performed.{isSent}
@@ -92,9 +89,6 @@ call-sent s (Call.Packet time) bytes out e =
     let facts = roomy s time (length out) (readRefusal bytes) e in
     meet-sent s (facts .0 .sound) out (facts .1) time bytes (lowest (isConflict (s .setup) (frameOf bytes)) (s .records))
 call-sent s (Call.Drop time slot) bytes out e = refl
-
-pub sent-told : (frame : Outgoing) (f : Frame) → frame ≡ Send f → true ≡ isSent (frameIn frame)
-sent-told frame f e = rw e
 
 -- A decision carried out: refused, and accepted.
 module _ (s : Interface) (call : Call) (bytes out : List ℕ) (d : Decision) where
