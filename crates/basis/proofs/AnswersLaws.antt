@@ -21,13 +21,9 @@ use Rattle.basis.specs.declared.SlotNumber.TheVariants.{Absent, Slot}
 use Rattle.basis.specs.declared.Moment.{Moment}
 use Rattle.basis.specs.declared.Moment.TheVariants.{Never, At}
 use Rattle.basis.specs.declared.Answer.{Answer}
-use Rattle.basis.specs.declared.Answer.TheVariants as Answer
 use Rattle.basis.specs.declared.ReadAnswer.{ReadAnswer}
-use Rattle.basis.specs.declared.ReadAnswer.TheVariants as ReadAnswer
 use Rattle.basis.specs.declared.WriteAnswer.{WriteAnswer}
-use Rattle.basis.specs.declared.WriteAnswer.TheVariants as WriteAnswer
 use Rattle.basis.specs.declared.ClockAnswer.{ClockAnswer}
-use Rattle.basis.specs.declared.ClockAnswer.TheVariants as ClockAnswer
 
 -- The refusals in the order of their numbers, and the one with a number.
 refusals : List Refusal

@@ -10,7 +10,6 @@ use Rattle.basis.specs.declared.Moment.TheVariants.{Never, At}
 use Rattle.basis.specs.declared.SlotNumber.{SlotNumber}
 use Rattle.basis.specs.declared.SlotNumber.TheVariants.{Absent, Slot}
 use Rattle.basis.specs.declared.Answer.{Answer}
-use Rattle.basis.specs.declared.Answer.TheVariants as Answer
 
 -- "Refusal numbers".
 abbrev pub refusal_number : Refusal → ℕ

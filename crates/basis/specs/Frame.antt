@@ -8,9 +8,7 @@ use Rattle.basis.specs.declared.Ipv4Address.{Ipv4Address}
 use Rattle.basis.specs.declared.HardwareAddress.{HardwareAddress}
 use Rattle.basis.specs.declared.Frame.{Frame}
 use Rattle.basis.specs.declared.ReadAnswer.{ReadAnswer}
-use Rattle.basis.specs.declared.ReadAnswer.TheVariants as ReadAnswer
 use Rattle.basis.specs.declared.WriteAnswer.{WriteAnswer}
-use Rattle.basis.specs.declared.WriteAnswer.TheVariants as WriteAnswer
 
 -- "28 bytes".
 abbrev pub frame_length : ℕ

@@ -1,13 +1,14 @@
 // The types of document 01, shared by every call. This crate has no function: specs/ says what is right, proofs/ what
 // follows from it, and the crates above do it.
+#![tactic(auto)]
 
 // An IPv4 address, its first byte the most significant.
-#[derive(Drop)]
+#[derive(Clone, Copy)]
 pub struct Ipv4Address(pub u32);
 
 // A time in whole milliseconds. A larger number than the last time is refused, but a deadline may be larger
 // (reading deadline-above-range).
-#[derive(Drop)]
+#[derive(Clone, Copy)]
 pub struct Time(pub u64);
 
 pub const LAST_TIME: u64 = 281_474_976_710_655;
@@ -36,7 +37,7 @@ pub const LONGEST_DELAY: u64 = 2_000;
 
 // A hardware address: 48 bits, its first byte the most significant. A larger number stands for no address and is refused
 // (reading hardware-48-bits).
-#[derive(Drop)]
+#[derive(Clone, Copy)]
 pub struct HardwareAddress(pub u64);
 
 // The first number above them: 2^48.
@@ -46,14 +47,14 @@ pub const HARDWARE_END: u64 = 281_474_976_710_656;
 pub const FRAME_LENGTH: usize = 28;
 
 // One of an ARP packet's two pairs of addresses.
-#[derive(Drop)]
+#[derive(Clone, Copy)]
 pub struct Host {
     pub hardware: HardwareAddress,
     pub ip: Ipv4Address,
 }
 
 // What an ARP packet says.
-#[derive(Drop)]
+#[derive(Clone, Copy)]
 pub struct Frame {
     pub operation: u16,
     pub sender: Host,
@@ -61,21 +62,21 @@ pub struct Frame {
 }
 
 // A time that may be missing: of an ask, of a conflict, or a deadline.
-#[derive(Drop)]
+#[derive(Clone, Copy)]
 pub enum Moment {
     Never,
     At(Time),
 }
 
 // The number of a slot, which may be missing.
-#[derive(Drop)]
+#[derive(Clone, Copy)]
 pub enum SlotNumber {
     Absent,
     Slot(u64),
 }
 
 // How far a slot's claim has come.
-#[derive(Drop)]
+#[derive(Clone, Copy)]
 pub enum Stage {
     Free,
     // With this many probes sent.
@@ -87,23 +88,22 @@ pub enum Stage {
 }
 
 // A slot's record. In a free one address and policy say nothing (readings free-is-a-stage, any-record).
-#[derive(Drop)]
+#[derive(Clone, Copy)]
 pub struct Record {
     pub address: Ipv4Address,
     pub policy: u8,
     pub stage: Stage,
 }
 
-// What is chosen at fresh and kept: the own hardware address. It stands in a call, an enum, so it holds no
-// array: code over an enum that holds one would have to be proved by hand.
-#[derive(Drop)]
+// What is chosen at fresh and kept: the own hardware address.
+#[derive(Clone, Copy)]
 pub struct Setup {
     pub hardware: HardwareAddress,
 }
 
 // A network port: what was chosen at fresh, the latest accepted time, the time of the latest accepted ask, how many conflicts
 // there were (10: ten or more), and its four slots.
-#[derive(Drop)]
+#[derive(Clone, Copy)]
 pub struct Interface {
     pub setup: Setup,
     pub latest: Time,
@@ -113,7 +113,7 @@ pub struct Interface {
 }
 
 // A call with its arguments, but for what is lent to it: a packet's bytes, and the out buffer of a tick and of a packet.
-#[derive(Drop)]
+#[derive(Clone, Copy)]
 pub enum Call {
     Fresh(Setup),
     Ask {
@@ -136,7 +136,7 @@ pub enum Call {
 }
 
 // What a conflict calls for: the address is given up, defended by a frame, or kept without one.
-#[derive(Drop)]
+#[derive(Clone, Copy)]
 pub enum Resolution {
     Lose,
     Defend,
@@ -144,7 +144,7 @@ pub enum Resolution {
 }
 
 // Why a call is refused, in the order of document 01's numbers, 1 to 14.
-#[derive(Drop)]
+#[derive(Clone, Copy)]
 pub enum Refusal {
     StateNotSound,
     HardwareNotAllowed,
@@ -163,7 +163,7 @@ pub enum Refusal {
 }
 
 // What an accepted call did.
-#[derive(Drop)]
+#[derive(Clone, Copy)]
 pub enum Kind {
     Fresh,
     Taken,
@@ -177,7 +177,7 @@ pub enum Kind {
 }
 
 // The answer of fresh, ask, tick, packet and drop, beside the new state. `next` is the smallest deadline left.
-#[derive(Drop)]
+#[derive(Clone, Copy)]
 pub enum Answer {
     Refused(Refusal),
     Accepted {
@@ -188,28 +188,28 @@ pub enum Answer {
 }
 
 // What fresh, ask, tick, packet and drop hand back: the answer and the state, after a refusal the one handed in.
-#[derive(Drop)]
+#[derive(Clone, Copy)]
 pub struct Called {
     pub answer: Answer,
     pub state: Interface,
 }
 
 // The answer of read.
-#[derive(Drop)]
+#[derive(Clone, Copy)]
 pub enum ReadAnswer {
     Refused(Refusal),
     Read(Frame),
 }
 
 // The answer of write.
-#[derive(Drop)]
+#[derive(Clone, Copy)]
 pub enum WriteAnswer {
     Refused(Refusal),
     Written,
 }
 
 // The answer of the clock: a refusal has the step too.
-#[derive(Drop)]
+#[derive(Clone, Copy)]
 pub enum ClockAnswer {
     Refused { refusal: Refusal, step: i32 },
     Widened { time: Time, step: i32 },

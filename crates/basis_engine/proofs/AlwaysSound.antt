@@ -27,7 +27,6 @@ use Rattle.basis.specs.declared.Answer.{Answer}
 use Rattle.basis.specs.declared.Resolution.{Resolution}
 use Rattle.basis.specs.declared.Resolution.TheVariants.{Lose, Defend, Keep}
 use Rattle.basis.specs.declared.Call.{Call}
-use Rattle.basis.specs.declared.Call.TheVariants as Call
 use Rattle.basis.proofs.BytesLaws.{and_both}
 use Rattle.basis_engine.specs.Timing.{wait, gap, after, Timing, timing_of}
 use Rattle.basis_engine.specs.Slots.{with_stage, free_record, record_at, put_at, all, lowest}

@@ -32,15 +32,15 @@ seen_free t (Announced deadline conflict) = refl
 seen_free t (Settled conflict) = refl
 
 -- The observer's test with a claim not in use, and with one in use, as tests alone.
-tests-before-use : (from request zero target strange : Bool) →
+tests_before_use : (from request zero target strange : Bool) →
     ((from && (true || strange)) || (true && request && zero && target && strange)) ≡ (from || ((request && zero && target) && strange))
-tests-before-use true request zero target strange = refl
-tests-before-use false request zero target strange = refl
+tests_before_use true request zero target strange = refl
+tests_before_use false request zero target strange = refl
 
-tests-in-use : (from request zero target strange : Bool) →
+tests_in_use : (from request zero target strange : Bool) →
     ((from && (false || strange)) || (false && request && zero && target && strange)) ≡ (from && strange)
-tests-in-use true request zero target strange = or-false strange
-tests-in-use false request zero target strange = refl
+tests_in_use true request zero target strange = or-false strange
+tests_in_use false request zero target strange = refl
 
 module _ (setup : Setup) (f : Frame) where
   story_conflict : (policy : ℕ) (stage : Stage) (c : Claim) (address : Ipv4Address) → c.address.0 ≡ address.0 → Story (timing_of setup) policy stage c.marks →
@@ -49,15 +49,15 @@ module _ (setup : Setup) (f : Frame) where
   story_conflict policy Free c address e story = absurd story
   story_conflict policy (Probing sent deadline) c address e story =
       rw ((untouched (timing_of setup) policy c.marks story.only).not_in_use, e)
-      (tests-before-use (is_from f address) (eqb f.operation 1) (eqb f.sender.ip.0 0) (eqb f.target.ip.0 address.0)
+      (tests_before_use (is_from f address) (eqb f.operation 1) (eqb f.sender.ip.0 0) (eqb f.target.ip.0 address.0)
       (not (is_ours setup f.sender.hardware)))
   story_conflict policy (Announced deadline conflict) c address e story =
       rw (story.in_use, e)
-      (tests-in-use (is_from f address) (eqb f.operation 1) (eqb f.sender.ip.0 0) (eqb f.target.ip.0 address.0)
+      (tests_in_use (is_from f address) (eqb f.operation 1) (eqb f.sender.ip.0 0) (eqb f.target.ip.0 address.0)
       (not (is_ours setup f.sender.hardware)))
   story_conflict policy (Settled conflict) c address e story =
       rw (story.in_use, e)
-      (tests-in-use (is_from f address) (eqb f.operation 1) (eqb f.sender.ip.0 0) (eqb f.target.ip.0 address.0)
+      (tests_in_use (is_from f address) (eqb f.operation 1) (eqb f.sender.ip.0 0) (eqb f.target.ip.0 address.0)
       (not (is_ours setup f.sender.hardware)))
 
   pub agrees_conflict : (slot : ℕ) (r : Record) (c : Claim) → Agrees (timing_of setup) slot r c → is_conflict_with setup f c ≡ is_conflict setup f r

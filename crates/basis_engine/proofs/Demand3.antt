@@ -1,5 +1,5 @@
 -- Demand 3 holds of every history.
-use Prim.Native.Nat.{ℕ, ◌+◌}
+use Prim.Native.Nat.{ℕ}
 use mathlib.Core.Path.{◌≡◌, refl, sym, ap, ◌∙◌}
 use mathlib.Core.Bool.{Bool, true, false, cond, ◌&&◌, true≢false, false≢true}
 use mathlib.Core.List.{List, [], ◌∷◌, ◌++◌, map}
@@ -18,7 +18,6 @@ use Rattle.basis.specs.declared.Record.{Record}
 use Rattle.basis.specs.declared.Interface.{Interface}
 use Rattle.basis.specs.declared.Answer.{Answer}
 use Rattle.basis.specs.declared.Call.{Call}
-use Rattle.basis.specs.declared.Call.TheVariants as Call
 use Rattle.basis.proofs.BytesLaws.{and_both}
 use Rattle.basis_engine.specs.Timing.{Timing, timing_of}
 use Rattle.basis_engine.specs.Slots.{record_at, any}
@@ -124,10 +123,10 @@ in_use_through row policy conflict sent c same w =
       not_given_up = rw same w.still_open;
     }
 
-announced-in-use : (since before : List Mark) (t : Time) → is_in_use (since ++ (mark an_announcement t ∷ before)) ≡ true
+announced_in_use : (since before : List Mark) (t : Time) → is_in_use (since ++ (mark an_announcement t ∷ before)) ≡ true
 unfolding times_of
-announced-in-use [] before t = refl
-announced-in-use (m ∷ since) before t = go (eqb (sign_number m.sign) (sign_number an_announcement)) (announced-in-use since before t)
+announced_in_use [] before t = refl
+announced_in_use (m ∷ since) before t = go (eqb (sign_number m.sign) (sign_number an_announcement)) (announced_in_use since before t)
   where
     go : (b : Bool) → is_in_use (since ++ (mark an_announcement t ∷ before)) ≡ true →
         is_any (cond b (m.time.0 ∷ times_of an_announcement (since ++ (mark an_announcement t ∷ before)))
@@ -136,7 +135,7 @@ announced-in-use (m ∷ since) before t = go (eqb (sign_number m.sign) (sign_num
     go false later = later
 
 in_use : (row : Timing) (c : Claim) → WentThrough row c → is_in_use c.marks ≡ true
-in_use row c w = rw w.split (announced-in-use w.since w.before w.announced_at)
+in_use row c w = rw w.split (announced_in_use w.since w.before w.announced_at)
 
 module _ (row : Timing) (address : Ipv4Address) (records : List Record) where
   story_through : (policy : ℕ) (stage : Stage) (c : Claim) → is_usable_stage stage ≡ true → c.policy ≡ policy → Story row policy stage c.marks →

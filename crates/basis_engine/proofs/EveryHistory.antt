@@ -18,9 +18,7 @@ use Rattle.basis.specs.declared.Moment.TheVariants.{Never, At}
 use Rattle.basis.specs.declared.Time.{Time}
 use Rattle.basis.specs.declared.Interface.{Interface}
 use Rattle.basis.specs.declared.Answer.{Answer}
-use Rattle.basis.specs.declared.Answer.TheVariants as Answer
 use Rattle.basis.specs.declared.Call.{Call}
-use Rattle.basis.specs.declared.Call.TheVariants as Call
 use Rattle.basis_engine.specs.Slots.{record_at, lowest, is_none}
 use Rattle.basis_engine.specs.Interface.{is_allowed, is_policy, is_free, is_held, is_sound, is_sound_setup}
 use Rattle.basis_engine.specs.Refusals.{state_and_time, fresh_refusal, is_too_soon, ask_refusal, tick_refusal, packet_refusal, drop_refusal}

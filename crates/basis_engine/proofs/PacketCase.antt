@@ -37,7 +37,7 @@ use Rattle.basis_engine.proofs.Rows.{timing_fits}
 use Rattle.basis_engine.proofs.SlotLaws.{lowest_holds, none_fails}
 use Rattle.basis_engine.proofs.Acceptance.{Admitted, past_later, packet_accepted, sound, sound_at, announcement_reads}
 use Rattle.basis_engine.proofs.ClaimLaws.{on, on_each, each_map, on_marked, on_marked_other}
-use Rattle.basis_engine.proofs.Stories.{untouched, Bounded, InUse, conflict_borne, defence_sent, bounded_conflicted, ended-before-use, ended_by_surrender, lost_surrenders, defended_bears, kept_bears}
+use Rattle.basis_engine.proofs.Stories.{untouched, Bounded, InUse, conflict_borne, defence_sent, bounded_conflicted, ended_before_use, ended_by_surrender, lost_surrenders, defended_bears, kept_bears}
 use Rattle.basis_engine.proofs.Links.{Story, Agrees, Closed, Here, Link, link_elsewhere, link_goes_on, link_over, agrees_here}
 use Rattle.basis_engine.proofs.Invariant.{LastAsk, agrees_open, Linked, LinkedAfter, last_ask_counts, by_address, holds_own, holds_no_other, held_address, linked_here, agrees_bounded, count_marked, linked_later}
 use Rattle.basis_engine.proofs.ConflictLaws.{seen_free, agrees_conflict, conflict_held, one_concerned}
@@ -52,13 +52,13 @@ is_lose Keep = false
 module _ (row : Timing) (policy : ℕ) (latest t : Time) (later : latest.0 ≤ t.0) (marks : List Mark) where
   lost_story : (stage : Stage) → resolution_at row policy t stage ≡ Lose → Story row policy stage marks → is_open_after row policy (mark a_conflict t ∷ marks) ≡ false
   lost_story Free e story = absurd story
-  lost_story (Probing sent deadline) e story = ended-before-use row policy t marks (untouched row policy marks story.only).not_in_use
+  lost_story (Probing sent deadline) e story = ended_before_use row policy t marks (untouched row policy marks story.only).not_in_use
   lost_story (Announced deadline conflict) e story = ended_by_surrender row policy t marks (lost_surrenders row policy conflict 1 t marks story e)
   lost_story (Settled conflict) e story = ended_by_surrender row policy t marks (lost_surrenders row policy conflict 2 t marks story e)
 
-  kept-in-use : (conflict : Moment) (sent : ℕ) → InUse row policy conflict sent marks → by_policy row policy t conflict ≡ Keep →
+  kept_in_use : (conflict : Moment) (sent : ℕ) → InUse row policy conflict sent marks → by_policy row policy t conflict ≡ Keep →
       is_past latest conflict ≡ true → InUse row policy (At t) sent (mark a_conflict t ∷ marks)
-  kept-in-use conflict sent w e past =
+  kept_in_use conflict sent w e past =
       conflict_borne row policy conflict sent t marks w (past_later latest t conflict later past) (kept_bears row policy conflict sent t marks w e)
 
   kept_story : (stage : Stage) → resolution_at row policy t stage ≡ Keep → is_sound_stage row latest stage ≡ true → Story row policy stage marks →
@@ -67,12 +67,12 @@ module _ (row : Timing) (policy : ℕ) (latest t : Time) (later : latest.0 ≤ t
   kept_story Free e sound story = absurd story
   kept_story (Probing sent deadline) e sound story = absurd (true≢false (ap is_lose e))
   kept_story (Announced deadline conflict) e sound story =
-      kept-in-use conflict 1 story e (and_both (is_near latest deadline) (is_past latest conflict) sound).1
-  kept_story (Settled conflict) e sound story = kept-in-use conflict 2 story e sound
+      kept_in_use conflict 1 story e (and_both (is_near latest deadline) (is_past latest conflict) sound).1
+  kept_story (Settled conflict) e sound story = kept_in_use conflict 2 story e sound
 
-  defended-in-use : (conflict : Moment) (sent : ℕ) → InUse row policy conflict sent marks → by_policy row policy t conflict ≡ Defend →
+  defended_in_use : (conflict : Moment) (sent : ℕ) → InUse row policy conflict sent marks → by_policy row policy t conflict ≡ Defend →
       is_past latest conflict ≡ true → InUse row policy (At t) sent (mark a_defence t ∷ (mark a_conflict t ∷ marks))
-  defended-in-use conflict sent w e past =
+  defended_in_use conflict sent w e past =
       let facts = defended_bears row policy conflict sent t marks w e in
       defence_sent row policy conflict sent t marks
       (conflict_borne row policy conflict sent t marks w (past_later latest t conflict later past) facts.0) w.behind facts.1
@@ -83,8 +83,8 @@ module _ (row : Timing) (policy : ℕ) (latest t : Time) (later : latest.0 ≤ t
   defended_story Free e sound story = absurd story
   defended_story (Probing sent deadline) e sound story = absurd (true≢false (ap is_lose e))
   defended_story (Announced deadline conflict) e sound story =
-      defended-in-use conflict 1 story e (and_both (is_near latest deadline) (is_past latest conflict) sound).1
-  defended_story (Settled conflict) e sound story = defended-in-use conflict 2 story e sound
+      defended_in_use conflict 1 story e (and_both (is_near latest deadline) (is_past latest conflict) sound).1
+  defended_story (Settled conflict) e sound story = defended_in_use conflict 2 story e sound
 
 -- The conflict count: one more for each claim that is hit.
 module _ (setup : Setup) (t : Time) (f : Frame) where

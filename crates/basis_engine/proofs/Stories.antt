@@ -265,10 +265,10 @@ unfolding times_of
 bounded_dropped row t marks w =
     record { few_probes = w.few_probes; few_announcements = w.few_announcements; defences_apart = w.defences_apart }
 
-pub ended-before-use : (row : Timing) → (policy : ℕ) (t : Time) (marks : List Mark) → is_in_use marks ≡ false →
+pub ended_before_use : (row : Timing) → (policy : ℕ) (t : Time) (marks : List Mark) → is_in_use marks ≡ false →
     is_open_after row policy (mark a_conflict t ∷ marks) ≡ false
 unfolding is_open_after
-ended-before-use row policy t marks e = rw e
+ended_before_use row policy t marks e = rw e
 
 pub ended_by_surrender : (row : Timing) → (policy : ℕ) (t : Time) (marks : List Mark) → is_surrender row policy marks t ≡ true →
     is_open_after row policy (mark a_conflict t ∷ marks) ≡ false

@@ -7,7 +7,6 @@ use Rattle.basis.specs.Frame.{frame_of}
 use Rattle.basis.specs.declared.Ipv4Address.{Ipv4Address}
 use Rattle.basis.specs.declared.Setup.{Setup}
 use Rattle.basis.specs.declared.Call.{Call}
-use Rattle.basis.specs.declared.Call.TheVariants as Call
 use Rattle.basis.specs.declared.Time.{Time}
 use Rattle.basis.specs.declared.Moment.{Moment}
 use Rattle.basis.specs.declared.Moment.TheVariants.{Never, At}

@@ -14,7 +14,6 @@ use Rattle.basis.specs.declared.Record.{Record}
 use Rattle.basis.specs.declared.Resolution.{Resolution}
 use Rattle.basis.specs.declared.Resolution.TheVariants.{Lose, Defend, Keep}
 use Rattle.basis.specs.declared.Kind.{Kind}
-use Rattle.basis.specs.declared.Kind.TheVariants as Kind
 use Rattle.basis_engine.specs.Timing.{Timing, is_within}
 use Rattle.basis_engine.specs.Slots.{free_record, with_stage}
 use Rattle.basis_engine.specs.Interface.{sender_of, is_ours}

@@ -5,7 +5,6 @@ use Rattle.basis.specs.Answers.{Report, refused, accepted, Accepted, answer_repo
 use Rattle.basis.specs.declared.Ipv4Address.{Ipv4Address}
 use Rattle.basis.specs.declared.Setup.{Setup}
 use Rattle.basis.specs.declared.Call.{Call}
-use Rattle.basis.specs.declared.Call.TheVariants as Call
 use Rattle.basis.specs.declared.Time.{Time}
 use Rattle.basis.specs.declared.Record.{Record}
 use Rattle.basis.specs.declared.Interface.{Interface}

@@ -8,7 +8,6 @@ use Rattle.basis.specs.declared.Frame.{Frame}
 use Rattle.basis.specs.declared.Interface.{Interface}
 use Rattle.basis.specs.declared.Answer.{Answer}
 use Rattle.basis.specs.declared.Call.{Call}
-use Rattle.basis.specs.declared.Call.TheVariants as Call
 use Rattle.basis_engine.specs.Deadlines.{smallest_deadline}
 use Rattle.basis_engine.specs.Calls.{Outcome, fresh_outcome, ask_outcome, tick_outcome, packet_outcome, drop_outcome}
 use Rattle.basis_engine.specs.Refusals.{fresh_refusal, ask_refusal, tick_refusal, packet_refusal, drop_refusal}

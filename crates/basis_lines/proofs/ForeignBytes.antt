@@ -76,6 +76,11 @@ stray_in_form packet (there (here front b back e)) =
     simp (foreign_in_bytes front b back (no_hex b e), unread_next, cond_none)
 stray_in_form drop (here front b back e) = simp (foreign_in_number largest front b back e, cond_none)
 stray_in_form drop (there (here front b back e)) = simp (foreign_in_number largest front b back e, unread_next, cond_none)
+stray_in_form fresh (there {field = field} {fields = fields} none_left) = elim none_left [ ]
+stray_in_form ask (there {field = field} (there (there (there {field = last} {fields = fields} none_left)))) = elim none_left [ ]
+stray_in_form tick (there {field = field} (there {fields = fields} none_left)) = elim none_left [ ]
+stray_in_form packet (there {field = field} (there {fields = fields} none_left)) = elim none_left [ ]
+stray_in_form drop (there {field = field} (there {fields = fields} none_left)) = elim none_left [ ]
 
 unread_line : (s : Interface) (line : List ℕ) → call_in (parts tab line) ≡ none → line_answer s line ≡ malformed s
 unfolding line_answer call_of
@@ -160,6 +165,7 @@ pass false counted call rest unread none_left = none_left
 
 no_call : {b : ℕ} → Foreign b → (fields : List (List ℕ)) → OneHas b fields → call_in fields ≡ none
 unfolding call_in
+no_call {b = b} foreign [] has = elim has [ ]
 no_call foreign (word ∷ fields) has =
     pass (same_bytes word fresh_word) (eqb (suc (length fields)) 2) _ _ (no_call_of foreign has fresh)
     (pass (same_bytes word ask_word) (eqb (suc (length fields)) 5) _ _ (no_call_of foreign has ask)

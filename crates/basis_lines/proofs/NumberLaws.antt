@@ -53,7 +53,7 @@ digits_append (b ∷ front) back =
 value_append : (n : ℕ) (front back : List ℕ) → value_after n (front ++ back) ≡ value_after (value_after n front) back
 unfolding value_after
 value_append n [] back = refl
-value_append n (b ∷ front) back = value_append _ front back
+value_append n (b ∷ front) back = value_append (10 * n + (b - 48)) front back
 
 value_last : (front : List ℕ) (b : ℕ) → value_after 0 (front ++ (b ∷ [])) ≡ 10 * value_after 0 front + (b - 48)
 unfolding value_after

@@ -1,7 +1,7 @@
 -- The whole case of document 01's "Replay lines", and lines at the edges of its forms, computed.
 use Prim.Native.Nat.{ℕ, ◌-◌, ◌^◌}
 use Prim.Native.Char.{code}
-use Prim.Native.String.{String, [] as endOfText, ◌∷◌ as ◌∷ᵗ◌, ◌++◌}
+use Prim.Native.String.{String, [] as end_of_text, ◌∷◌ as ◌∷ᵗ◌, ◌++◌}
 use mathlib.Core.Path.{◌≡◌, refl}
 use mathlib.Core.List.{List, [], ◌∷◌, map}
 use mathlib.Core.Option.{Option, none, some}
@@ -22,7 +22,7 @@ use Rattle.basis_lines.specs.Records.{records_after, answers, replay}
 
 -- A text's bytes, where each character is one.
 unfoldable pub codes : String → List ℕ
-codes endOfText = []
+codes end_of_text = []
 codes (c ∷ᵗ text) = code c ∷ codes text
 
 -- "The gap in `1 000` stands for bytes C2 A0; a plain space gives the same."

@@ -5,7 +5,6 @@ use Rattle.basis.specs.Bytes.{same_bytes}
 use Rattle.basis.specs.Frame.{frame_length}
 use Rattle.basis.specs.declared.Time.{Time}
 use Rattle.basis.specs.declared.Call.{Call}
-use Rattle.basis.specs.declared.Call.TheVariants as Call
 use Rattle.basis_engine.specs.Machine.{Invocation}
 use Rattle.basis_lines.specs.Fields.{tab, parts, ◌then◌}
 use Rattle.basis_lines.specs.Numbers.{number, largest, largest_draw, address, bytes, hardware}

@@ -1,5 +1,7 @@
 // Document 01's "Replay lines" as definitions: a line, its answer, and a stream of lines. This crate has no function: specs/ says
 // what is right, proofs/ what follows from it, and the crates above do it.
+#![tactic(auto)]
+
 use basis::Interface;
 
 // The most bytes of a line, without the byte 10 that ends it.
@@ -9,7 +11,7 @@ pub const LONGEST_LINE: usize = 4_096;
 pub const LONGEST_ANSWER: usize = 111;
 
 // What a line comes to: the state afterwards, and how many bytes of the answer were written.
-#[derive(Drop)]
+#[derive(Clone, Copy)]
 pub struct AnsweredLine {
     pub state: Interface,
     pub written: usize,
@@ -17,7 +19,7 @@ pub struct AnsweredLine {
 
 // Where a replay stands between two calls: the state of the port, and whether the bytes up to the next byte 10 belong to a line
 // that is too long already.
-#[derive(Drop)]
+#[derive(Clone, Copy)]
 pub struct Stream {
     pub state: Interface,
     pub skipping: bool,

@@ -53,7 +53,7 @@ module _
   reported_step = clock_within latest reading within ∙ ap signed (sym (wrapping latest reading d wraps small)) ∙ sym told
 
   held : to_z w32 (of_z w32 step) ≡ step
-  held = to_z-of_z (record { sfits = fits })
+  held = to_z-of_z {w = w32} (record { sfits = fits })
 
   pub clock_back : lt_z (to_z w32 (of_z w32 step)) (pos 0) ≡ true →
       record { step = to_z w32 (of_z w32 step); time = refused 4 } ≡ clock_of latest reading

@@ -1,4 +1,6 @@
 // The board's clock: a 32-bit count of milliseconds that rolls over, widened to the time it stands for.
+#![tactic(auto)]
+
 ghost use Rattle.std.specs.Prelude.{◌≡◌};
 ghost use Rattle.basis.specs.Clock.{signed, clock_of, clock_report};
 
@@ -16,6 +18,7 @@ fn signed_step(difference: u32) -> i32
 }
 
 // The time of a reading taken after `latest`.
+#[tactic(auto, using(crate::proofs::ClockLaws::clock_ends))]
 pub fn widen(latest: Time, reading: u32) -> ClockAnswer
     ensures { clock_report result ≡ clock_of latest.0 reading }
 {

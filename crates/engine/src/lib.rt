@@ -1,5 +1,7 @@
 // The five calls of a port, each for any state and any arguments. The state goes in and comes back by value, after a refusal as
 // it was.
+#![tactic(auto)]
+
 ghost use Rattle.std.specs.Prelude.{[]};
 ghost use Rattle.basis.specs.declared.Call.TheVariants as Calls;
 ghost use Rattle.basis_engine.specs.Machine.{Promised};

@@ -1,4 +1,6 @@
 // The refusals of a call on a state, row by row: the first three, and how a further one is added.
+#![tactic(auto)]
+
 ghost use Rattle.std.specs.Prelude.{◌≡◌, ltb};
 ghost use Rattle.std.proofs.Math.Option.{none};
 ghost use Rattle.basis.specs.Answers.{refusal_number, ◌if◌else◌};
@@ -8,7 +10,7 @@ ghost use Rattle.engine_admission.specs.Rows.{check_of, first_rows, or_else};
 use basis::{FRAME_LENGTH, LAST_TIME, Refusal, Time};
 
 // How a call comes through rows of the refusals.
-#[derive(Drop)]
+#[derive(Clone, Copy)]
 pub enum Check {
     Passed,
     Refused(Refusal),

@@ -1,4 +1,6 @@
 // Asking for an address: the refusals in the table's order, then the lowest free slot.
+#![tactic(auto)]
+
 ghost use Rattle.std.specs.Prelude.{◌≡◌, ◌≤◌};
 ghost use Rattle.std.proofs.Math.Option.{none};
 ghost use Rattle.basis.specs.Times.{last_time};
@@ -19,6 +21,7 @@ use engine_admission::Check;
 use engine_decisions::{Decision, Outgoing, Verdict};
 
 // Whether there were ten conflicts and less than 60,000 ms ago an ask.
+#[tactic(auto, using(crate::proofs::AskLaws::soon_ends))]
 fn is_too_soon(state: Interface, time: Time) -> bool
     ensures { result ≡ is_too_soon state time }
 {

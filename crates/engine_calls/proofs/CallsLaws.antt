@@ -2,13 +2,8 @@
 use Prim.Native.Nat.{ℕ, ◌≤◌}
 use mathlib.Core.Path.{◌≡◌, refl, sym, ap, ◌∙◌}
 use mathlib.Core.Bool.{Bool, true, false, false≢true}
-use mathlib.Core.List.{List, [], ◌∷◌}
-use mathlib.Core.Logic.{inl, inr}
+use mathlib.Core.List.{List, []}
 use mathlib.Core.Option.{Option, none, some}
-use native.Mathlib.Omega.{arith}
-use types.Run.{OneOf}
-use denote.Enum.Declared.{tag_of}
-use Rattle.basis.specs.contracts.Call as CallType
 use lib.Dec.{ltb}
 use lib.ListN.{length}
 use Rattle.basis.specs.Answers.{reported, leaves}
@@ -24,7 +19,6 @@ use Rattle.basis.specs.declared.Resolution.TheVariants.{Lose, Defend, Keep}
 use Rattle.basis.specs.declared.Interface.{Interface}
 use Rattle.basis.specs.declared.Answer.{Answer}
 use Rattle.basis.specs.declared.Call.{Call}
-use Rattle.basis.specs.declared.Call.TheVariants as Call
 use Rattle.basis.specs.declared.Called.{Called}
 use Rattle.basis_engine.specs.Timing.{Timing, timing_of}
 use Rattle.basis_engine.specs.Slots.{record_at, lowest}
@@ -135,29 +129,29 @@ module _ (s : Interface) (call : Call) (bytes out : List ℕ) (d : Decision) whe
       go (some n) declines = ap is_sent declines.sends
 
   -- The decision of each call.
-  abbrev Decision-made : Type 0
-  Decision-made = Decided s (refusal_of s call bytes (length out)) (outcome_of s call bytes) d
+  abbrev DecisionMade : Type 0
+  DecisionMade = Decided s (refusal_of s call bytes (length out)) (outcome_of s call bytes) d
 
-  pub fresh_decided : (setup : Setup) → call ≡ Call.Fresh setup → is_fresh call ≡ false → Decision-made
+  pub fresh_decided : (setup : Setup) → call ≡ Call.Fresh setup → is_fresh call ≡ false → DecisionMade
   fresh_decided setup e not = absurd (false≢true (sym not ∙ ap is_fresh e))
 
   pub ask_decided : (time : Time) (address : Ipv4Address) (policy draw : ℕ) → call ≡ Call.Ask time address policy draw →
-      Decided s (ask_refusal s time address policy draw) (ask_outcome s time address policy draw) d → Decision-made
+      Decided s (ask_refusal s time address policy draw) (ask_outcome s time address policy draw) d → DecisionMade
   unfolding refusal_of outcome_of
   ask_decided time address policy draw e says = rw e says
 
   pub tick_decided : (time : Time) (draw : ℕ) → call ≡ Call.Tick time draw →
-      Decided s (tick_refusal s time draw (length out)) (tick_outcome s time draw) d → Decision-made
+      Decided s (tick_refusal s time draw (length out)) (tick_outcome s time draw) d → DecisionMade
   unfolding refusal_of outcome_of
   tick_decided time draw e says = rw e says
 
   pub packet_decided : (time : Time) → call ≡ Call.Packet time →
-      Decided s (packet_refusal s time bytes (length out)) (packet_outcome s time bytes) d → Decision-made
+      Decided s (packet_refusal s time bytes (length out)) (packet_outcome s time bytes) d → DecisionMade
   unfolding refusal_of outcome_of
   packet_decided time e says = rw e says
 
   pub drop_decided : (time : Time) (slot : ℕ) → call ≡ Call.Drop time slot →
-      Decided s (drop_refusal s time slot) (drop_outcome s time slot) d → Decision-made
+      Decided s (drop_refusal s time slot) (drop_outcome s time slot) d → DecisionMade
   unfolding refusal_of outcome_of
   drop_decided time slot e says = rw e says
 
@@ -168,16 +162,13 @@ pub is_admitted : (s : Interface) (time : Time) (sound : Bool) → sound ≡ is_
     (check : Check) → check_of check ≡ first_rows sound s.latest time → check_of check ≡ state_and_time s time none
 is_admitted s time sound e check told = told ∙ first_rows_lem s sound e time
 
--- A call whose tag is not that of fresh is none.
-pub not_fresh : (call : Call) → OneOf (1 ∷ 2 ∷ 3 ∷ 4 ∷ []) (tag_of CallType.the_type call) → is_fresh call ≡ false
-not_fresh (Call.Fresh setup) (inl e) = absurd (omega arith)
-not_fresh (Call.Fresh setup) (inr (inl e)) = absurd (omega arith)
-not_fresh (Call.Fresh setup) (inr (inr (inl e))) = absurd (omega arith)
-not_fresh (Call.Fresh setup) (inr (inr (inr e))) = absurd (omega arith)
-not_fresh (Call.Ask time address policy draw) tag = refl
-not_fresh (Call.Tick time draw) tag = refl
-not_fresh (Call.Packet time) tag = refl
-not_fresh (Call.Drop time slot) tag = refl
+-- A call that is fresh with no setup is none.
+pub not_fresh : (call : Call) → ((setup : Setup) → call ≡ Call.Fresh setup → ⊥) → is_fresh call ≡ false
+not_fresh (Call.Fresh setup) other = absurd (other setup refl)
+not_fresh (Call.Ask time address policy draw) other = refl
+not_fresh (Call.Tick time draw) other = refl
+not_fresh (Call.Packet time) other = refl
+not_fresh (Call.Drop time slot) other = refl
 
 -- Fresh hands out no frame, whatever is lent to it.
 module _ (s : Interface) (setup : Setup) (bytes out : List ℕ) where

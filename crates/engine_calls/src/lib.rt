@@ -1,4 +1,6 @@
 // Any call: a new interface, or the rows that it begins with, what it decides, and what comes of it.
+#![tactic(auto)]
+
 ghost use Rattle.std.specs.Prelude.{◌≡◌, false, length};
 ghost use Rattle.basis.specs.Answers.{leaves};
 ghost use Rattle.basis_engine.specs.Interface.{is_sound};
@@ -10,7 +12,7 @@ use basis::{Answer, Call, Interface, Refusal};
 use engine_decisions::{Decision, Outgoing};
 
 // What a call came to: its answer, the state handed back, and whether a frame was handed out.
-#[derive(Drop)]
+#[derive(Clone, Copy)]
 pub struct Performed {
     pub answer: Answer,
     pub state: Interface,

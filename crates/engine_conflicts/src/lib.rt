@@ -1,4 +1,6 @@
 // Document 01, "Packet": what is a conflict.
+#![tactic(auto)]
+
 ghost use Rattle.std.specs.Prelude.{◌≡◌, not, ◌&&◌, ◌||◌};
 ghost use Rattle.basis.specs.Answers.{slot_of};
 ghost use Rattle.basis_engine.specs.Slots.{lowest};

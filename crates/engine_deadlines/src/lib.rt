@@ -1,4 +1,6 @@
 // The smallest deadline of the four records, and the slot that is due.
+#![tactic(auto)]
+
 ghost use Rattle.std.specs.Prelude.{◌≡◌};
 ghost use Rattle.basis.specs.Answers.{slot_of, time_of};
 ghost use Rattle.basis_engine.specs.Slots.{lowest, is_just};
@@ -22,6 +24,7 @@ fn deadline(stage: Stage) -> Moment
 }
 
 // The earlier of two deadlines, made anew.
+#[tactic(auto, using(crate::proofs::DeadlinesLaws::earlier_ends))]
 fn earlier(one: Moment, other: Moment) -> Moment
     ensures { time_of result ≡ smaller (time_of one) (time_of other) }
 {

@@ -7,7 +7,6 @@ use Rattle.basis.specs.Frame.{write_out}
 use Rattle.basis.specs.declared.Frame.{Frame}
 use Rattle.basis.specs.declared.Interface.{Interface}
 use Rattle.basis.specs.declared.Kind.{Kind}
-use Rattle.basis.specs.declared.Kind.TheVariants as Kind
 use Rattle.basis.specs.declared.Moment.{Moment}
 use Rattle.basis.specs.declared.Record.{Record}
 use Rattle.basis.specs.declared.Refusal.{Refusal}
@@ -15,16 +14,13 @@ use Rattle.basis.specs.declared.SlotNumber.{SlotNumber}
 use Rattle.basis.specs.declared.SlotNumber.TheVariants.{Absent}
 use Rattle.basis.specs.declared.Time.{Time}
 use Rattle.basis.specs.declared.Answer.{Answer}
-use Rattle.basis.specs.declared.Answer.TheVariants as Answer
 use Rattle.basis_engine.specs.Deadlines.{smallest_deadline}
 use Rattle.engine_state.specs.declared.Change.{Change}
 use Rattle.engine_state.specs.Changes.{changed_by, change_at}
 use Rattle.engine_decisions.specs.declared.Outgoing.{Outgoing}
 use Rattle.engine_decisions.specs.declared.Outgoing.TheVariants.{Send}
-use Rattle.engine_decisions.specs.declared.Outgoing.TheVariants as Outgoing
 use Rattle.basis_engine.specs.Calls.{nothing}
 use Rattle.engine_decisions.specs.declared.Verdict.{Verdict}
-use Rattle.engine_decisions.specs.declared.Verdict.TheVariants as Verdict
 use Rattle.engine_decisions.specs.declared.Decision.{Decision}
 use Rattle.engine_decisions.specs.Decisions.{frame_in, sent_out, answer_with, Decides, Declines, CarriedOut}
 

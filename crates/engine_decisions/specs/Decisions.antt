@@ -13,7 +13,6 @@ use Rattle.engine_state.specs.Changes.{changed_by}
 use Rattle.engine_decisions.specs.declared.Outgoing.{Outgoing}
 use Rattle.engine_decisions.specs.declared.Outgoing.TheVariants.{Nothing, Send}
 use Rattle.engine_decisions.specs.declared.Verdict.{Verdict}
-use Rattle.engine_decisions.specs.declared.Verdict.TheVariants as Verdict
 use Rattle.engine_decisions.specs.declared.Decision.{Decision}
 
 -- The frame that goes out, if there is one, and the out buffer after its write.

@@ -1,5 +1,7 @@
 // What a call decides, and the decision carried out. A call decides first and changes the state once, so that the state is not
 // copied at each turn of its way.
+#![tactic(auto)]
+
 ghost use Rattle.std.specs.Prelude.{◌≡◌};
 ghost use Rattle.basis.specs.Answers.{refusal_number, slot_of, answer_report};
 ghost use Rattle.basis_engine.specs.Calls as Calls;
@@ -9,21 +11,21 @@ use basis::{Answer, Called, Frame, Interface, Kind, Record, Refusal, SlotNumber,
 use engine_state::Change;
 
 // A frame that goes out, or none.
-#[derive(Drop)]
+#[derive(Clone, Copy)]
 pub enum Outgoing {
     Nothing,
     Send(Frame),
 }
 
 // Whether a call is refused, or the kind of what it does.
-#[derive(Drop)]
+#[derive(Clone, Copy)]
 pub enum Verdict {
     Refused(Refusal),
     Accepted(Kind),
 }
 
 // What a call comes to, before anything is changed. The slot that it reports is the one that changes.
-#[derive(Drop)]
+#[derive(Clone, Copy)]
 pub struct Decision {
     pub verdict: Verdict,
     pub change: Change,

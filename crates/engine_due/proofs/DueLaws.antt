@@ -14,7 +14,6 @@ use Rattle.basis.specs.declared.Stage.TheVariants.{Free, Probing, Announced, Set
 use Rattle.basis.specs.declared.Time.{Time}
 use Rattle.basis.specs.declared.Frame.{Frame}
 use Rattle.basis.specs.declared.Kind.{Kind}
-use Rattle.basis.specs.declared.Kind.TheVariants as Kind
 use Rattle.basis_engine.specs.Timing.{rfc5227, gap}
 use Rattle.basis_engine.specs.Interface.{sender_of}
 use Rattle.basis_engine.specs.Calls.{delay, DueFrame, due_frame, stage_after}

@@ -1,4 +1,6 @@
 // A due record: the frame that goes out, and the stage that its sending leaves.
+#![tactic(auto)]
+
 ghost use Rattle.std.specs.Prelude.{◌≡◌, ◌≤◌};
 ghost use Rattle.std.proofs.Math.Option.{none, some};
 ghost use Rattle.basis.specs.Times.{last_time};
@@ -17,7 +19,7 @@ use basis::{
 use engine_decisions::Outgoing;
 
 // The frame that is due: the kind that is reported of it, and the frame.
-#[derive(Drop)]
+#[derive(Clone, Copy)]
 pub struct Due {
     pub kind: Kind,
     pub frame: Outgoing,

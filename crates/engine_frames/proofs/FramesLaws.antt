@@ -25,11 +25,11 @@ module _ (setup : Setup) (address : Ipv4Address) (f : Frame) where
   is_announcement e = e
 
 -- A sound state's sender has 48 bits, so its requests are put into an out buffer that has room for a frame.
-module _ (s : Interface) (is_sound_lem : is_sound s ≡ true) (address : Ipv4Address) (out : List ℕ) (room : frame_length ≤ length out) where
+module _ (s : Interface) (sound_before : is_sound s ≡ true) (address : Ipv4Address) (out : List ℕ) (room : frame_length ≤ length out) where
   put : (ip : Ipv4Address) →
       write_out (request_of (sender_of s.setup) ip address) out ≡ frame_put (request_of (sender_of s.setup) ip address) out
   unfolding write_out write_refusal is_writable
-  put ip = rw (le-ltb (length out) frame_length room, sender_hardware s.setup (sound s is_sound_lem).chosen)
+  put ip = rw (le-ltb (length out) frame_length room, sender_hardware s.setup (sound s sound_before).chosen)
 
   pub probe_put : write_out (probe (sender_of s.setup) address) out ≡ frame_put (probe (sender_of s.setup) address) out
   unfolding probe

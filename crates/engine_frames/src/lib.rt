@@ -1,4 +1,6 @@
 // The frames that we send: requests with our hardware address, where the target's is unknown.
+#![tactic(auto)]
+
 ghost use Rattle.std.specs.Prelude.{◌≡◌};
 ghost use Rattle.basis.specs.Frame as Spec;
 ghost use Rattle.basis_engine.specs.Interface.{sender_of};

@@ -19,7 +19,6 @@ use Rattle.basis.specs.declared.Resolution.TheVariants.{Lose, Defend, Keep}
 use Rattle.basis.specs.declared.SlotNumber.{SlotNumber}
 use Rattle.basis.specs.declared.SlotNumber.TheVariants.{Absent, Slot}
 use Rattle.basis.specs.declared.ReadAnswer.{ReadAnswer}
-use Rattle.basis.specs.declared.ReadAnswer.TheVariants as ReadAnswer
 use Rattle.basis.specs.declared.Setup.{Setup}
 use Rattle.basis.proofs.AnswersLaws.{accepted_none, accepted_same, refused_some}
 use Rattle.basis_engine.specs.Slots.{record_at, lowest}
@@ -30,7 +29,6 @@ use Rattle.basis_engine.specs.Timing.{rfc5227}
 use Rattle.basis_engine.specs.Interface.{sender_of}
 use Rattle.basis_engine.proofs.Acceptance.{sound}
 use Rattle.engine_admission.specs.declared.Check.{Check}
-use Rattle.engine_admission.specs.declared.Check.TheVariants as Check
 use Rattle.engine_admission.specs.Rows.{check_of, or_else}
 use Rattle.engine_admission.proofs.Rows.{room_rows, room_passed}
 use Rattle.engine_state.specs.declared.Change.{Change}

@@ -1,4 +1,6 @@
 // The call packet: an ARP packet came in, and is a conflict with the record in a slot or with none.
+#![tactic(auto)]
+
 ghost use Rattle.std.specs.Prelude.{◌≤◌, ◌≡◌};
 ghost use Rattle.std.proofs.Math.Option.{none};
 ghost use Rattle.basis_engine.specs.Timing.{rfc5227};

@@ -1,4 +1,6 @@
 // A port's state, made anew, and a slot of it freed.
+#![tactic(auto)]
+
 ghost use Rattle.std.specs.Prelude.{◌≡◌, ◌||◌, [], ltb};
 ghost use Rattle.std.proofs.Math.Option.{none};
 ghost use Rattle.basis_engine.specs.Slots.{record_at};

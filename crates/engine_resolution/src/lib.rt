@@ -1,4 +1,6 @@
 // Document 01, "Packet": what a conflict does to a record.
+#![tactic(auto)]
+
 ghost use Rattle.std.specs.Prelude.{◌≡◌};
 ghost use Rattle.basis.specs.declared.Resolution.TheVariants.{Keep};
 ghost use Rattle.basis_engine.specs.Timing.{rfc5227};
@@ -8,6 +10,7 @@ ghost use Rattle.basis_engine.specs.Conflicts as Conflicts;
 use basis::{DEFEND_INTERVAL, Kind, Moment, Record, Resolution, Stage, Time};
 
 // What a conflict with a usable record calls for.
+#[tactic(auto, using(crate::proofs::ResolutionLaws::policy_ends))]
 fn by_policy(policy: u8, now: Time, last: Moment) -> Resolution
     ensures { result ≡ by_policy rfc5227 policy now last }
 {

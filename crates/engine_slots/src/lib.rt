@@ -1,4 +1,6 @@
 // The four records: one read and one replaced, the lowest slot of which a test holds, and whether an address is held.
+#![tactic(auto)]
+
 ghost use Rattle.std.specs.Prelude.{◌≡◌, cond, [], ◌∷◌, eqb, drop};
 ghost use Rattle.basis.specs.Answers.{slot_of};
 ghost use Rattle.basis_engine.specs.Slots.{free_record, record_at, put_at};

@@ -1,4 +1,6 @@
 // What a sound state asks of an address, a policy, a time and a record.
+#![tactic(auto)]
+
 ghost use Rattle.std.specs.Prelude.{◌≡◌};
 ghost use Rattle.basis_engine.specs.Timing.{rfc5227};
 ghost use Rattle.basis_engine.specs.Slots.{all};

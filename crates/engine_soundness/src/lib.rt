@@ -1,4 +1,6 @@
 // Whether a state is sound.
+#![tactic(auto)]
+
 ghost use Rattle.std.specs.Prelude.{◌≡◌, drop};
 ghost use Rattle.basis_engine.specs.Interface.{is_alone, is_own_hardware, is_sound_setup, holds_none_twice, is_sound};
 

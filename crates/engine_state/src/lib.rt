@@ -1,4 +1,6 @@
 // A port's state: made anew, changed, and copied.
+#![tactic(auto)]
+
 ghost use Rattle.std.specs.Prelude.{◌≡◌};
 ghost use Rattle.basis_engine.specs.Interface.{new_interface};
 ghost use Rattle.basis_engine.specs.Interface as Spec;
@@ -23,7 +25,7 @@ pub fn new_interface(setup: Setup) -> Interface
 
 // What becomes of a state: its latest time, the time of its latest ask, its count, and the record in the slot concerned, if there
 // is one. What was chosen at fresh is kept.
-#[derive(Drop)]
+#[derive(Clone, Copy)]
 pub struct Change {
     pub latest: Time,
     pub asked: Moment,

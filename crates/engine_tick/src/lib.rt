@@ -1,4 +1,6 @@
 // Ticks: the slot that is due is served, with one frame.
+#![tactic(auto)]
+
 ghost use Rattle.std.specs.Prelude.{◌≡◌, ◌≤◌};
 ghost use Rattle.std.proofs.Math.Option.{none, some};
 ghost use Rattle.basis.specs.Times.{last_time};

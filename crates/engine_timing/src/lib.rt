@@ -1,4 +1,6 @@
 // Document 01, "Times and counts that are fixed": what a lent draw makes of them, and what lies less than an interval back.
+#![tactic(auto)]
+
 ghost use Rattle.std.specs.Prelude.{◌≡◌};
 ghost use Rattle.basis_engine.specs.Timing.{rfc5227, is_within};
 ghost use Rattle.basis_engine.specs.Timing as Timing;

@@ -1,4 +1,6 @@
 // What reading and writing an ARP frame share, and the number that bytes stand for.
+#![tactic(auto)]
+
 ghost use Rattle.std.specs.Prelude.{◌≡◌, ◌∷◌, []};
 ghost use Rattle.basis.specs.Bytes.{number_of};
 ghost use Rattle.basis.specs.Frame.{is_known_operation};

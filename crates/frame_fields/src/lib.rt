@@ -1,4 +1,6 @@
 // The fields of an ARP frame of RFC 826, for Ethernet and IPv4: of 28 bytes, most significant first.
+#![tactic(auto)]
+
 ghost use Rattle.std.specs.Prelude.{◌≡◌, ◌≤◌, length};
 ghost use Rattle.basis.specs.Frame.{frame_length, frame_of};
 

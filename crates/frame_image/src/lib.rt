@@ -1,4 +1,6 @@
 // The bytes of an ARP frame of RFC 826, for Ethernet and IPv4: 28, most significant first.
+#![tactic(auto)]
+
 ghost use Rattle.std.specs.Prelude.{◌≡◌, ◌++◌, drop};
 ghost use Rattle.basis.specs.Frame.{request_header, frame_bytes};
 
@@ -47,6 +49,7 @@ fn request(frame: Frame) -> [u8; FRAME_LENGTH]
 }
 
 // A frame's bytes: those of a request, but for another operation.
+#[tactic(auto, using(crate::proofs::ImageLaws::image_request, crate::proofs::ImageLaws::image_other))]
 pub fn image(frame: Frame) -> [u8; FRAME_LENGTH]
     ensures { result ≡ frame_bytes frame }
 {

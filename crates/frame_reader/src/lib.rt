@@ -1,4 +1,6 @@
 // Reading an ARP frame: its fields, or a refusal.
+#![tactic(auto)]
+
 ghost use Rattle.std.specs.Prelude.{◌≡◌, ◌≤◌, length};
 ghost use Rattle.basis.specs.Frame.{frame_length, is_known_frame, read_of, read_report};
 

@@ -3,10 +3,9 @@ use Prim.Native.Nat.{ℕ, ◌≤◌, ◌<◌, ◌^◌}
 use mathlib.Core.Path.{◌≡◌, sym, ◌∙◌}
 use mathlib.Core.List.{List, ◌++◌}
 use mathlib.Core.Bool.{Bool, true, false}
-use native.Mathlib.Nat.{le_refl}
 use native.Mathlib.Omega.{arith}
 use lib.ListN.{length, take, drop}
-use lib.Seq.{length-take-le, take-take}
+use lib.Seq.{length-take-le}
 use lib.Dec.{ltb}
 use borrow.Author.Tests.{lt-ltb, le-ltb}
 use Rattle.basis.specs.Answers.{refusal_number, refused, accepted}
@@ -72,13 +71,17 @@ module _ (f : Frame) where
     count_is = sym (length-take-le n bytes count_fits)
 
     module _ (out : List ℕ) (told : write_report answer ≡ write_of f (length out)) where
-      pub count_room : length (take n bytes) ≤ length out
-      count_room = rw (← count_is, count) (answer_room answer (length out) told)
+      pub count_room : n ≤ length out
+      count_room = rw count (answer_room answer (length out) told)
 
-      pub write_leaves : (last : List ℕ) → last ≡ take (length (take n bytes)) (take n bytes) ++ drop (length (take n bytes)) out →
-          last ≡ write_out f out
-      write_leaves last e =
-          e ∙ rw (← count_is, take-take n n bytes (le_refl n), count, image) (answer_leaves answer out told)
+      pub count_taken : n ≡ length (take n out)
+      count_taken = sym (length-take-le n out count_room)
+
+      pub same_count : length (take n out) ≡ length (take n bytes)
+      same_count = sym count_taken ∙ count_is
+
+      pub write_leaves : (front : List ℕ) → front ≡ take n bytes → front ++ drop n out ≡ write_out f out
+      write_leaves front e = rw (e, count, image) (answer_leaves answer out told)
 
 -- Each way that `write_answer` ends.
 pub ruleset write_ends = (write_short, write_whole, write_foreign)

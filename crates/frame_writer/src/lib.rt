@@ -1,4 +1,6 @@
 // Writing an ARP frame: its 28 bytes to the start of the out buffer, or a refusal.
+#![tactic(auto)]
+
 ghost use Rattle.std.specs.Prelude.{◌≡◌, length};
 ghost use Rattle.basis.specs.Frame.{is_writable, write_of, write_out, write_report};
 ghost use Rattle.frame_writer.specs.BytesWritten.{bytes_written};
@@ -19,6 +21,7 @@ fn is_writable(frame: Frame) -> bool
 }
 
 // What a write into this many bytes answers.
+#[tactic(auto, using(crate::proofs::WriterLaws::write_ends))]
 fn write_answer(frame: Frame, room: usize) -> WriteAnswer
     ensures { write_report result ≡ write_of frame room }
 {
@@ -49,6 +52,6 @@ pub fn write(frame: Frame, out: &mut [u8]) -> WriteAnswer
     let answer = write_answer(frame, out.len());
     let bytes = frame_image::image(frame);
     let count = bytes_written(answer);
-    bytes::copy(&bytes[..count], out);
+    out[..count].copy_from_slice(&bytes[..count]);
     answer
 }

@@ -6,7 +6,6 @@ use Rattle.basis.specs.declared.Ipv4Address.{Ipv4Address}
 use Rattle.basis_lines.specs.Fields.{only, ◌then◌}
 use Rattle.basis_lines.specs.Numbers.{number, each}
 use Rattle.parse_addresses.specs.declared.AddressReading.{AddressReading}
-use Rattle.parse_addresses.specs.declared.AddressReading.TheVariants as AddressReading
 
 abbrev pub address_of : AddressReading → Option Ipv4Address
 address_of AddressReading.Malformed = none

@@ -1,4 +1,6 @@
 // Reading IPv4 addresses: "four such numbers up to 255, parted by dots". "Each read whole or refused whole."
+#![tactic(auto)]
+
 ghost use Rattle.std.specs.Prelude.{◌+◌, ◌*◌, ◌<◌, ◌≡◌};
 ghost use Rattle.basis_lines.specs.Numbers as Numbers;
 ghost use Rattle.parse_addresses.specs.Dotted.{address_of};
@@ -7,7 +9,7 @@ use basis::Ipv4Address;
 use parse_numbers::Reading;
 
 // What a text is as an address.
-#[derive(Drop)]
+#[derive(Clone, Copy)]
 pub enum AddressReading {
     Malformed,
     Address(Ipv4Address),

@@ -22,17 +22,13 @@ use Rattle.parse_fields.specs.Places.{begun}
 use Rattle.parse_fields.proofs.FieldsLaws.{begun_is, is_begun}
 use Rattle.parse_numbers.specs.Numerals.{reading_of}
 use Rattle.parse_numbers.specs.declared.Reading.{Reading}
-use Rattle.parse_numbers.specs.declared.Reading.TheVariants as Reading
 use Rattle.parse_forms.specs.declared.Command.{Command}
-use Rattle.parse_forms.specs.declared.Command.TheVariants as Command
 use Rattle.parse_forms.specs.declared.Parsed.{Parsed}
 use Rattle.parse_forms.specs.Commands.{asked, headed, Makes, if_count}
 use Rattle.parse_forms.proofs.Counts.{ReadNext}
 use Rattle.parse_forms.proofs.FormsLaws.{no_number, no_tab_behind, number_then}
 use Rattle.parse_command.specs.declared.Form.{Form}
-use Rattle.parse_command.specs.declared.Form.TheVariants as Form
 use Rattle.parse_command.specs.declared.Word.{Word}
-use Rattle.parse_command.specs.declared.Word.TheVariants as Word
 use Rattle.parse_command.specs.Words.{row_of, timed_call, word_call, start_of}
 
 -- A command without bytes.

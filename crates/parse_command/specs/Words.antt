@@ -7,9 +7,7 @@ use Rattle.basis_lines.specs.Fields.{tab, parts, ◌then◌}
 use Rattle.basis_lines.specs.Forms.{field, time, fresh_word, ask_word, tick_word, packet_word, drop_word, fresh_call, ask_at, tick_at, packet_at, drop_at}
 use Rattle.parse_forms.specs.Commands.{if_count}
 use Rattle.parse_command.specs.declared.Form.{Form}
-use Rattle.parse_command.specs.declared.Form.TheVariants as Form
 use Rattle.parse_command.specs.declared.Word.{Word}
-use Rattle.parse_command.specs.declared.Word.TheVariants as Word
 
 -- A form's word, how many fields it has with the word, and what they make once the time is read.
 pub record Row : Type 0 where

@@ -1,5 +1,7 @@
 // The command that a line stands for: "Forms: `fresh` hardware; `ask` time address policy draw; `tick` time draw; `packet` time
 // bytes; `drop` time slot", fields parted by one tab. To add a form is to add its word here and its reader to the crate parse_forms.
+#![tactic(auto)]
+
 ghost use Rattle.std.specs.Prelude.{◌≤◌, ◌≡◌, [], ◌∷◌, length};
 ghost use Rattle.basis_lines.specs.Fields.{tab, parts};
 ghost use Rattle.basis_lines.specs.Forms.{call_in, call_of};
@@ -12,7 +14,7 @@ use parse_forms::{Command, LARGEST, Parsed, TAB};
 use parse_numbers::Reading;
 
 // The forms whose word a time follows.
-#[derive(Drop)]
+#[derive(Clone, Copy)]
 enum Form {
     Tick,
     Packet,
@@ -21,7 +23,7 @@ enum Form {
 }
 
 // A line's first word, with its tab: that of a form with a time, and where its fields start; `fresh`; or any other.
-#[derive(Drop)]
+#[derive(Clone, Copy)]
 enum Word {
     Timed { form: Form, start: usize },
     Fresh,

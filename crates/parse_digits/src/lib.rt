@@ -1,10 +1,12 @@
 // The digits that a text begins with, for the readings of numbers: as many as stand for less than 2^64, in one pass.
+#![tactic(auto)]
+
 ghost use Rattle.std.specs.Prelude.{◌≤◌, ◌<◌, ◌≡◌, true};
 ghost use Rattle.basis_lines.specs.Numbers as Numbers;
 ghost use Rattle.parse_digits.specs.LeadingDigits.{appended, is_next_digit, Read};
 
 // The digits that a text begins with: what they stand for, and how many they are.
-#[derive(Drop)]
+#[derive(Clone, Copy)]
 pub struct Digits {
     pub value: u64,
     pub count: usize,

@@ -1,4 +1,6 @@
 // The splitter of a line's fields and of an address's parts, and how a line begins.
+#![tactic(auto)]
+
 ghost use Rattle.std.specs.Prelude.{suc, ◌+◌, ◌≤◌, ◌<◌, ◌≡◌, ltb, length, take, drop};
 ghost use Rattle.basis_lines.specs.Fields.{first_part};
 ghost use Rattle.parse_fields.specs.Places.{end_from, begun};

@@ -20,17 +20,12 @@ use Rattle.basis_lines.proofs.HexLaws.{foreign_in_bytes, foreign_in_hardware}
 use Rattle.parse_numbers.specs.Numerals.{reading_of}
 use Rattle.parse_numbers.proofs.NumbersLaws.{separator_in_number}
 use Rattle.parse_numbers.specs.declared.Reading.{Reading}
-use Rattle.parse_numbers.specs.declared.Reading.TheVariants as Reading
 use Rattle.parse_addresses.specs.Dotted.{address_of}
 use Rattle.parse_addresses.specs.declared.AddressReading.{AddressReading}
-use Rattle.parse_addresses.specs.declared.AddressReading.TheVariants as AddressReading
 use Rattle.parse_hex.specs.HexValues.{hardware_of, head_of}
 use Rattle.parse_hex.specs.declared.HardwareReading.{HardwareReading}
-use Rattle.parse_hex.specs.declared.HardwareReading.TheVariants as HardwareReading
 use Rattle.parse_hex.specs.declared.BytesReading.{BytesReading}
-use Rattle.parse_hex.specs.declared.BytesReading.TheVariants as BytesReading
 use Rattle.parse_forms.specs.declared.Command.{Command}
-use Rattle.parse_forms.specs.declared.Command.TheVariants as Command
 use Rattle.parse_forms.specs.Commands.{asked, headed, Makes, if_count, policy_at, draw_at}
 use Rattle.parse_forms.proofs.Counts.{last_field, ReadNext, alone, unread, goes_on}
 

@@ -10,7 +10,6 @@ use Rattle.basis_lines.specs.Fields.{◌then◌}
 use Rattle.basis_lines.specs.Numbers.{number, largest, largest_draw}
 use Rattle.basis_lines.specs.Forms.{field, made}
 use Rattle.parse_forms.specs.declared.Command.{Command}
-use Rattle.parse_forms.specs.declared.Command.TheVariants as Command
 use Rattle.parse_forms.specs.declared.Parsed.{Parsed}
 
 -- What a command asks for, with the bytes of a packet.

@@ -2,6 +2,8 @@
 // draw; `packet` time bytes; `drop` time slot", fields parted by one tab. The last field of a form is all that is left of the line:
 // a tab is no digit, so one field too many is refused by the last one's reader. In the contracts an empty text stands for each
 // field that is read already.
+#![tactic(auto)]
+
 ghost use Rattle.std.specs.Prelude.{◌≤◌, ◌≡◌, [], ◌∷◌};
 ghost use Rattle.basis_lines.specs.Fields.{tab, parts};
 ghost use Rattle.basis_lines.specs.Numbers.{largest_draw};
@@ -21,14 +23,14 @@ pub const LARGEST: u64 = 18_446_744_073_709_551_615;
 const LARGEST_DRAW: u64 = 4_294_967_295;
 
 // What a line asks for.
-#[derive(Drop)]
+#[derive(Clone, Copy)]
 pub enum Command {
     Malformed,
     Call(Call),
 }
 
 // It, with how many bytes of a packet stand at the start of a buffer that the caller lends: the first 28 at most.
-#[derive(Drop)]
+#[derive(Clone, Copy)]
 pub struct Parsed {
     pub command: Command,
     pub count: usize,

@@ -1,5 +1,7 @@
 // Hardware addresses and packet bytes, read from lower-case hex. The crate hex_digits checks a text whole before any of it is read.
 // Loops that do not end early and have a constant count compile to vector code.
+#![tactic(auto)]
+
 ghost use Rattle.std.specs.Prelude.{◌+◌, ◌*◌, ◌≤◌, ◌<◌, ◌≡◌, length, get_or, take, drop};
 ghost use Rattle.std.proofs.Math.Option.{map};
 ghost use Rattle.basis.specs.Bytes.{number_of};
@@ -16,14 +18,14 @@ const MOST_DIGITS: usize = 3_000;
 const FRAME_DIGITS: usize = 2 * FRAME_LENGTH;
 
 // What a text is as a hardware address.
-#[derive(Drop)]
+#[derive(Clone, Copy)]
 pub enum HardwareReading {
     Malformed,
     Hardware(HardwareAddress),
 }
 
 // What a text is as bytes: how many of the first 28 there are. The engine reads no more.
-#[derive(Drop)]
+#[derive(Clone, Copy)]
 pub enum BytesReading {
     Malformed,
     Bytes(usize),

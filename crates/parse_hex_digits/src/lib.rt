@@ -1,5 +1,7 @@
 // Whether all of a text is lower-case hex: checked before the crate parse_hex reads any of it. Loops that do not end early and have a
 // constant count compile to vector code.
+#![tactic(auto)]
+
 ghost use Rattle.std.specs.Prelude.{◌≡◌, ◌+◌, ◌≤◌, min, ◌&&◌, length, take, drop, ◌==◌, nat_le};
 ghost use Rattle.parse_hex_digits.specs.HexText.{is_hex, are_hex};
 
@@ -56,6 +58,7 @@ fn runs_are_hex(text: &[u8]) -> bool
 }
 
 // Whether all of a text is hex.
+#[tactic(auto, using(crate::proofs::HexDigitsLaws::run_whole))]
 pub fn are_hex(text: &[u8]) -> bool
     ensures { result ≡ are_hex text.now }
 {

@@ -4,7 +4,6 @@ use Rattle.std.proofs.Math.Option.{Option, none, some}
 use Rattle.basis_lines.specs.Fields.{first_part}
 use Rattle.basis_lines.specs.Numbers.{is_empty}
 use Rattle.parse_numbers.specs.declared.Reading.{Reading}
-use Rattle.parse_numbers.specs.declared.Reading.TheVariants as Reading
 
 abbrev pub reading_of : Reading → Option ℕ
 reading_of Reading.Malformed = none

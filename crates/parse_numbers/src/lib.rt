@@ -1,4 +1,6 @@
 // Reading numbers: "digits 0 to 9 only, no leading zero except for 0 itself". "Each read whole or refused whole."
+#![tactic(auto)]
+
 ghost use Rattle.std.specs.Prelude.{ℕ, ◌≤◌, ◌≡◌, false, length, take, drop};
 ghost use Rattle.std.proofs.Math.Option.{some};
 ghost use Rattle.basis_lines.specs.Fields.{first_part};
@@ -6,14 +8,14 @@ ghost use Rattle.basis_lines.specs.Numbers as Numbers;
 ghost use Rattle.parse_numbers.specs.Numerals.{reading_of, has_numeral_start, is_number, is_first_number};
 
 // What a text is as a number.
-#[derive(Drop)]
+#[derive(Clone, Copy)]
 pub enum Reading {
     Malformed,
     Number(u64),
 }
 
 // What the first part of a text is as a number, and how long that part is: of a malformed one the length says nothing.
-#[derive(Drop)]
+#[derive(Clone, Copy)]
 pub struct First {
     pub reading: Reading,
     pub length: usize,

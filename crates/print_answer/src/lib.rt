@@ -1,4 +1,6 @@
 // An answer's text, written into an out buffer: document 01, "Output per line".
+#![tactic(auto)]
+
 ghost use Rattle.std.specs.Prelude.{◌+◌, ◌≤◌, ◌≡◌, [], ◌∷◌, length};
 ghost use Rattle.basis.specs.Answers.{slot_of, time_of, refusal_number};
 ghost use Rattle.basis_lines.specs.Fields.{tab, newline};

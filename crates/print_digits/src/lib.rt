@@ -1,4 +1,6 @@
 // Texts put into an out buffer: bytes as they are, a number in decimal, and bytes in hex.
+#![tactic(auto)]
+
 ghost use Rattle.std.specs.Prelude.{◌+◌, ◌*◌, ◌%◌, ◌≤◌, ◌<◌, ◌≡◌, length};
 ghost use Rattle.basis_lines.specs.Numbers.{decimal, hex_glyph, hex_text};
 ghost use Rattle.print_digits.specs.Put.{Put};

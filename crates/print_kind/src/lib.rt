@@ -1,4 +1,6 @@
 // How an accepted answer begins: `ok` and the kind's word.
+#![tactic(auto)]
+
 ghost use Rattle.std.specs.Prelude.{◌≤◌, ◌∷◌, ◌++◌, length};
 ghost use Rattle.basis.specs.Answers.{kind_word};
 ghost use Rattle.basis_lines.specs.Fields.{tab};

@@ -1,4 +1,6 @@
 // Bytes moved within a buffer.
+#![tactic(auto)]
+
 ghost use Rattle.std.specs.Prelude.{◌+◌, ◌≤◌, ◌≡◌, length, take, drop};
 ghost use Rattle.basis_lines.specs.Answers.{written};
 

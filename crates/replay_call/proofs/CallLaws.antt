@@ -6,7 +6,7 @@ use mathlib.Core.List.{List, ◌++◌, append-nil}
 use mathlib.Core.Option.{Option, none, some}
 use native.Mathlib.Omega.{arith}
 use lib.ListN.{length, drop_of_length-le}
-use Rattle.basis.specs.Answers.{leaves, Accepted, refusal_number, slot_of, time_of, answer_report}
+use Rattle.basis.specs.Answers.{leaves, refusal_number, slot_of, time_of, answer_report}
 use Rattle.basis.proofs.AnswersLaws.{accepted_none}
 use Rattle.basis.specs.Frame.{frame_length, frame_bytes, frame_put}
 use Rattle.basis.specs.declared.Frame.{Frame}
@@ -17,7 +17,6 @@ use Rattle.basis.specs.declared.Moment.{Moment}
 use Rattle.basis.specs.declared.Call.{Call}
 use Rattle.basis.specs.declared.Interface.{Interface}
 use Rattle.basis.specs.declared.Answer.{Answer}
-use Rattle.basis.specs.declared.Answer.TheVariants as Answer
 use Rattle.basis_engine.specs.Machine.{Promised, outcome_of, result_of, refusal_of, handed_out}
 use Rattle.basis_lines.specs.Forms.{lent_buffer, made}
 use Rattle.basis_lines.specs.Numbers.{hex_text}
@@ -84,4 +83,4 @@ pub call_gives : (s : Interface) (call : Call) (bytes : List ℕ) (r : Performed
 unfolding result_of
 call_gives s call bytes r frame kept sent n old new counted put =
     let told = promised_text s call bytes r.sent frame sent kept.written r.answer kept.answered in
-    record { state_after_lem = kept.handed_back; counted = counted ∙ ap length told; bytes = put ∙ ap (λ text. written text old) told }
+    record { state_after = kept.handed_back; counted = counted ∙ ap length told; bytes = put ∙ ap (λ text. written text old) told }

@@ -3,7 +3,6 @@ use Rattle.std.specs.Prelude.{ℕ, ◌≡◌, Bool, List, length}
 use Rattle.basis.specs.Answers.{refusal_number, slot_of, time_of}
 use Rattle.basis.specs.declared.Interface.{Interface}
 use Rattle.basis.specs.declared.Answer.{Answer}
-use Rattle.basis.specs.declared.Answer.TheVariants as Answer
 use Rattle.basis_lines.specs.Answers as Answers
 use Rattle.basis_lines.specs.Answers.{refused_text, written}
 use Rattle.print_answer.specs.AcceptedText.{shown, accepted_with}
@@ -16,6 +15,6 @@ answer_text (Answer.Accepted kind slot next) sent frame =
 
 -- A state, a count of bytes and an out buffer, before and after, as what a line comes to has them.
 pub record Gives (answered : Answers.Answered) (state : Interface) (count : ℕ) (old new : List ℕ) : Type 0 where
-  pub state_after_lem : state ≡ answered.state
+  pub state_after : state ≡ answered.state
   pub counted : count ≡ length answered.text
   pub bytes : new ≡ written answered.text old

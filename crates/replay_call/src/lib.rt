@@ -1,4 +1,6 @@
 // A call made, and the text of its answer.
+#![tactic(auto)]
+
 ghost use Rattle.std.specs.Prelude.{◌≤◌, ◌≡◌, length};
 ghost use Rattle.std.proofs.Math.Option.{some};
 ghost use Rattle.basis.specs.Answers.{refusal_number};

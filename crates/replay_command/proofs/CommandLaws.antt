@@ -8,7 +8,6 @@ use lib.ListN.{length, take}
 use Rattle.basis.specs.declared.Time.{Time}
 use Rattle.basis.specs.declared.Interface.{Interface}
 use Rattle.basis.specs.declared.Call.{Call}
-use Rattle.basis.specs.declared.Call.TheVariants as Call
 use Rattle.basis_engine.specs.Machine.{refusal_of, outcome_of, result_of, Invocation}
 use Rattle.basis_engine.proofs.PacketHead.{outcome_head, result_head}
 use Rattle.basis_lines.specs.Forms.{made, call_of}
@@ -16,7 +15,6 @@ use Rattle.basis_lines.specs.Answers.{written, malformed, answer_to, line_answer
 use Rattle.basis_lines.specs.Stream.{ended_answer}
 use Rattle.parse_forms.specs.Commands.{asked, headed, Makes}
 use Rattle.parse_forms.specs.declared.Command.{Command}
-use Rattle.parse_forms.specs.declared.Command.TheVariants as Command
 use Rattle.parse_forms.specs.declared.Parsed.{Parsed}
 use Rattle.replay_call.specs.AnswerText.{Gives}
 
@@ -47,7 +45,7 @@ module _ (s state : Interface) (n : ℕ) (head old new : List ℕ) (parsed : Par
 
   pub malformed_carried : parsed.command ≡ Command.Malformed → state ≡ s → n ≡ length (malformed s).text → new ≡ written (malformed s).text old
       → Carried parsed.command
-  malformed_carried is e h k = subst Carried (sym is) (record { state_after_lem = e; counted = h; bytes = k })
+  malformed_carried is e h k = subst Carried (sym is) (record { state_after = e; counted = h; bytes = k })
 
   pub call_carried : (call : Call) (bytes : List ℕ) → parsed.command ≡ Command.Call call → bytes ≡ take parsed.count head
       → Gives (answer_to s (some (made call bytes))) state n old new → Carried parsed.command
@@ -66,4 +64,4 @@ module _ (s state : Interface) (n : ℕ) (head old new : List ℕ) (parsed : Par
 pub too_long_gives : (s : Interface) (n : ℕ) (old new : List ℕ) (skipping : Bool) (line : List ℕ) → skipping ≡ true
     → n ≡ length (malformed s).text → new ≡ written (malformed s).text old
     → Gives (ended_answer (record { state = s; skipping = skipping }) line) s n old new
-too_long_gives s n old new skipping line long h k = rw long (record { state_after_lem = refl; counted = h; bytes = k })
+too_long_gives s n old new skipping line long h k = rw long (record { state_after = refl; counted = h; bytes = k })

@@ -1,4 +1,6 @@
 // A line's command carried out, on a state of which it is known whether it is sound.
+#![tactic(auto)]
+
 ghost use Rattle.std.specs.Prelude.{◌≤◌, ◌≡◌, length, take};
 ghost use Rattle.basis_engine.specs.Interface.{is_sound};
 ghost use Rattle.basis_lines.specs.Answers.{longest_answer, answer_to};

@@ -10,15 +10,15 @@ use Rattle.basis_lines.specs.Answers.{written, line_answer, longest_answer, has_
 use Rattle.replay_call.specs.AnswerText.{Gives}
 
 module _ (s : Interface) (line out : List ℕ) where
-  abbrev pub Answers-line : Interface → ℕ → List ℕ → Type 0
-  Answers-line state n new =
+  abbrev pub AnswersLine : Interface → ℕ → List ℕ → Type 0
+  AnswersLine state n new =
       (state ≡ cond (has_room out) (line_answer s line).state s)
       × ((n ≡ cond (has_room out) (length (line_answer s line).text) 0)
       × (new ≡ cond (has_room out) (written (line_answer s line).text out) out))
 
-  pub no_room : length out < longest_answer → Answers-line s 0 out
+  pub no_room : length out < longest_answer → AnswersLine s 0 out
   no_room short = rw (lt-leb longest_answer (length out) short) (refl, (refl, refl))
 
   pub with_room : (state : Interface) (n : ℕ) (new : List ℕ) → longest_answer ≤ length out → Gives (line_answer s line) state n out new
-      → Answers-line state n new
-  with_room state n new long g = rw (le-leb longest_answer (length out) long) (g.state_after_lem, (g.counted, g.bytes))
+      → AnswersLine state n new
+  with_room state n new long g = rw (le-leb longest_answer (length out) long) (g.state_after, (g.counted, g.bytes))

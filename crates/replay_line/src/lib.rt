@@ -1,4 +1,6 @@
 // A line answered: its call made, and the answer written.
+#![tactic(auto)]
+
 ghost use Rattle.std.specs.Prelude.{◌≡◌, cond, length};
 ghost use Rattle.basis_lines.specs.Answers.{has_room, written, line_answer};
 

@@ -1,5 +1,7 @@
 // A replay whose input arrives in pieces: the lines at hand are answered, and what is left of the input is to come again with the
 // next piece.
+#![tactic(auto)]
+
 ghost use Rattle.std.specs.Prelude.{◌≤◌, ◌≡◌, true, cond, length, drop};
 ghost use Rattle.basis_engine.specs.Interface.{is_sound, zeros};
 ghost use Rattle.basis_lines.specs.Fields.{newline, first_part};
@@ -12,7 +14,7 @@ use basis_lines::{LONGEST_ANSWER, LONGEST_LINE, Stream};
 
 // What a call of work did: the stream afterwards, how many bytes of the input are used up, how many were written, and whether it
 // waits for more input (else the out buffer was too short to go on).
-#[derive(Drop)]
+#[derive(Clone, Copy)]
 pub struct Worked {
     pub stream: Stream,
     pub used: usize,
@@ -21,7 +23,7 @@ pub struct Worked {
 }
 
 // What the end of the input did: whether there was room, and how many bytes were written.
-#[derive(Drop)]
+#[derive(Clone, Copy)]
 pub struct Finished {
     pub done: bool,
     pub written: usize,
@@ -50,6 +52,7 @@ fn line_at(input: &[u8], at: usize) -> &[u8]
 
 // Whether a state is sound, where it may be known already that it is. No call makes a sound state unsound, so the lines of an
 // input ask once.
+#[tactic(auto, using(crate::proofs::Places::is_known))]
 fn is_sound(state: Interface, known: bool) -> bool
     requires { known ≡ true → is_sound state ≡ true }
     ensures { result ≡ is_sound state }

@@ -1,0 +1,16 @@
+-- `parse_fields::end_by_32`: the end from `at` is the end from `from`.
+use borrow.Author.Rules.{rules}
+use Rattle.parse_fields.proofs.FieldsLaws.{block_passed, block_has, found_from}
+use Rattle.parse_fields.proofs.end_by_32.Goals as goal
+
+pub place_in_block-requires : goal.place_in_block-requires
+place_in_block-requires c = search (block_has, rules)
+
+pub returns-then-has : goal.returns-then-has
+returns-then-has c = search (found_from, rules)
+
+pub loop-at-preserved : goal.loop-at-preserved
+loop-at-preserved c = search (block_passed, rules)
+
+pub returns : goal.returns
+returns c = search (found_from, rules)

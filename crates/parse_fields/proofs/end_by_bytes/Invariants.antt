@@ -1,0 +1,12 @@
+-- `parse_fields::end_by_bytes`: the end from `at` is the end from `from`.
+use Prim.Native.Nat.{◌-◌, ◌≤◌}
+use mathlib.Core.Path.{◌≡◌}
+use lib.ListN.{length}
+use Rattle.parse_fields.specs.Places.{end_from}
+use Rattle.parse_fields.proofs.end_by_bytes.Given as goal
+
+abbrev pub invariant-loop-at : goal.invariant-loop-at
+invariant-loop-at l = (l.at ≤ length l.text) × (end_from l.separator l.text l.from ≡ end_from l.separator l.text l.at)
+
+abbrev pub decreases-loop-at : goal.decreases-loop-at
+decreases-loop-at l = length l.text - l.at
