@@ -1,4 +1,6 @@
 // Replays the lines of standard input: an answer a line on standard output.
-fn main() {
-    replay_driver::run();
+#![tactic(auto)]
+
+fn main(rt: HostRuntime) {
+    replay_driver::run(&rt);
 }

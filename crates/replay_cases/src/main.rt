@@ -1,4 +1,6 @@
 // The replay again, on the cases of tests/cases.
-fn main() {
-    replay_driver::run();
+#![tactic(auto)]
+
+fn main(rt: HostRuntime) {
+    replay_driver::run(&rt);
 }

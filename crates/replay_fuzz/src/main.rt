@@ -1,4 +1,6 @@
 // The replay again, on the fixed lines of tests/fuzz; what it must write are the twin's answers.
-fn main() {
-    replay_driver::run();
+#![tactic(auto)]
+
+fn main(rt: HostRuntime) {
+    replay_driver::run(&rt);
 }

@@ -1,2 +1,0 @@
--- What a turn of the loop keeps.
-pub mod DriverLaws
