@@ -1,7 +1,7 @@
 """Mutants in functions that do not call each other, judged by one check: the prover answers for each function."""
 import re
 
-from prove import first_error
+from prove import errors_of, first_error
 from source import Source
 
 MOST = 6
@@ -65,7 +65,7 @@ class Batches:
         """Checks a batch, again without those that are no program, until the prover answers."""
         while len(batch) > 1:
             text = text_with(batch)
-            status, said = self.prover.check_text(batch[0], text)
+            status, said = self.prover.check(batch[0], text)
             if status == 1 and not re.search(r"^logic=not-proved", said, re.M):
                 broken = self._broken(batch, text, said)
                 if not broken:
@@ -73,31 +73,37 @@ class Batches:
                 found.update(broken)
                 batch = [m for m in batch if m not in broken]
             else:
-                found.update(self._told(batch, said))
+                found.update(self._refused(batch, text, said))
                 return batch
         return batch
 
+    def _lines(self, batch, text):
+        """For each mutant's function, its first and its last line in the text."""
+        edited = Source(batch[0].crate, batch[0].path, text)
+        return {f.name: (edited.place(edited.tokens[f.head].start)[0], edited.place(edited.tokens[f.last].end)[0]) for f in edited.functions}
+
     def _broken(self, batch, text, said):
         """The mutants in whose functions the front end finds an error."""
-        edited = Source(batch[0].crate, batch[0].path, text)
-        lines = {f.name: (edited.place(edited.tokens[f.first].start)[0], edited.place(edited.tokens[f.last].end)[0]) for f in edited.functions}
-        broken = {}
+        lines, broken = self._lines(batch, text), {}
         for m in batch:
-            first, last = lines[m.function]
-            errors = [e for e in re.findall(r"^.*/(src/[^ ]*: error.*)$", said, re.M) if first <= int(e.split(":")[1]) <= last]
+            errors = [e for e in errors_of(said) if is_in(e, lines[m.function])]
             if errors:
                 broken[m] = ("no program", errors[0][:300])
         return broken
 
-    def _told(self, batch, said):
-        """What the check says of each mutant's function, where it is not for another function's sake."""
-        told = {}
+    def _refused(self, batch, text, said):
+        """The mutants whose functions are not proved, for their own sake. Those that are proved are checked alone: whether the code is
+        the same shows only there."""
+        lines, refused = self._lines(batch, text), {}
         for m in batch:
-            answer = re.search(rf"^fn {m.crate}::{m.function}: (.*)$", said, re.M)
-            if answer and answer.group(1) == "proved":
-                told[m] = ("same code" if self.prover.is_same_code(m) else "proved", "")
-            elif answer and answer.group(1) == "not proved":
-                own = [line for line in said.splitlines() if f"/proofs/{m.function}/" in line]
-                if any(": error" in line for line in own):
-                    told[m] = ("refused", first_error("\n".join(own)))
-        return told
+            if re.search(rf"^fn {m.crate}::{m.function}: (?:not proved|no proof)", said, re.M):
+                own = [e for e in errors_of(said) if is_in(e, lines[m.function]) or e.startswith(f"proofs/{m.function}/")]
+                if own:
+                    refused[m] = ("refused", first_error("\n".join(own)))
+        return refused
+
+
+def is_in(error, lines):
+    """Whether an error stands in these lines of the source."""
+    line = re.match(r"src/[^ :]*:(\d+):", error)
+    return bool(line) and lines[0] <= int(line[1]) <= lines[1]

@@ -1,10 +1,12 @@
-"""The repository's crates and the kit's commands, called as `rt` calls them."""
+"""The repository's crates, and a copy of them in which `rt` is called on edited files."""
+import contextlib
+import functools
 import hashlib
 import os
-import platform
 import shutil
 import subprocess
 import sys
+import tempfile
 from pathlib import Path
 
 
@@ -13,36 +15,23 @@ def refuse(text):
     raise SystemExit(2)
 
 
-class Kit:
-    def __init__(self):
-        rt = shutil.which("rt")
-        if not rt and "RATTLE_HOME" not in os.environ:
-            refuse("rt is not found; put the Rattle toolchain on PATH")
-        self.home = Path(os.environ.get("RATTLE_HOME") or Path(rt).resolve().parent.parent)
-        self.own = self.home / "on" / platform.machine()
-        self.tools = self.own / "toolchain"
-        self.id = (self.home / "KIT-ID").read_text()
-        lines = (self.home / "libs" / "libs.txt").read_text().splitlines()
-        self.uses = {n.strip(): d.split() for n, _, d in (line.partition(":") for line in lines) if n.strip()}
-
-    def command(self, name):
-        return str(self.own / "bin" / name)
-
-    def mode(self):
-        return ["--antt-project", str(self.home / "logic" / "antt-project.json"), "--logic-built", str(self.own / "logic-built")]
-
-
 class Repository:
-    def __init__(self, root, kit):
-        self.root, self.kit = root, kit
-        self.target = root / "target"
-        self.work = self.target / "mutation"
+    def __init__(self, root):
+        self.root = root
+        self.results = root / "tests" / "mutation" / "out"
         self.deps = {}
         for line in (root / "crates.txt").read_text().splitlines():
             name, colon, deps = line.partition("#")[0].partition(":")
             if colon:
                 self.deps[name.strip()] = deps.split()
         self.hashes = {}
+
+    @functools.cached_property
+    def kit(self):
+        """The toolchain's line."""
+        if not shutil.which("rt"):
+            refuse("rt is not found; put the Rattle toolchain on PATH")
+        return subprocess.run(["rt", "version"], stdout=subprocess.PIPE, text=True, check=True).stdout
 
     def folder(self, crate):
         return self.root / "crates" / crate
@@ -64,13 +53,13 @@ class Repository:
         return sorted(found, key=lambda c: -stdin[c].stat().st_size if stdin[c].exists() else 0)
 
     def reached(self, crate):
-        """The libraries below a crate, of the repository and of the kit."""
+        """The libraries below a crate: the repository's, and those of the toolchain that its crates name."""
         found, todo = [], list(self.deps[crate])
         while todo:
             d = todo.pop(0)
             if d not in found:
                 found.append(d)
-                todo += self.deps.get(d) or self.kit.uses.get(d, [])
+                todo += self.deps.get(d, [])
         return found
 
     def above(self, crate):
@@ -85,7 +74,7 @@ class Repository:
         if crate not in self.hashes:
             files = [p for part in ("src", "specs", "proofs") for p in (self.folder(crate) / part).rglob("*") if p.is_file()]
             below = [self.hash(d) for d in self.deps[crate] if d in self.deps]
-            self.hashes[crate] = digest([self.kit.id, *below, *contents(self.folder(crate), files)])
+            self.hashes[crate] = digest([self.kit, *below, *contents(self.folder(crate), files)])
         return self.hashes[crate]
 
     def crates_hash(self):
@@ -101,16 +90,35 @@ class Repository:
         """The script that runs a program where it cannot read or write, if it has one."""
         return self.root / "tests" / "failures" / program
 
-    def words(self, crate, file, rlibs=()):
-        """The words of every command on a crate. Libraries are taken from the folders `rlibs` first."""
-        words = ["--crate-name", crate, str(file), "--extern", f"std={self.kit.own}/rlib/std.rlib"]
-        folders = [*rlibs, self.target / "rlib", self.kit.own / "rlib"]
-        for d in self.deps[crate]:
-            folder = next(f for f in folders if (f / f"{d}.rlib").exists())
-            words += ["--extern", f"{d}={folder}/{d}.rlib"]
-        for folder in folders:
-            words += ["-L", f"dependency={folder}"]
-        return words
+
+class Room:
+    """A copy of the crates among the temporary files, since `rt ci` wants no source outside `crates`. What a check of the repository kept
+    is used there too: `rt` sees to it."""
+
+    def __init__(self, repository):
+        self.repository = repository
+        self.place = tempfile.TemporaryDirectory(prefix="mutation-")
+        self.root = Path(self.place.name)
+        for name in ("crates.txt", "HANDLES"):
+            if (repository.root / name).exists():
+                shutil.copy(repository.root / name, self.root / name)
+        shutil.copytree(repository.root / "crates", self.root / "crates", ignore=shutil.ignore_patterns("out", "must-fail"))
+
+    def folder(self, crate):
+        return self.root / "crates" / crate
+
+    @contextlib.contextmanager
+    def edited(self, mutant, text=None):
+        """The room while the mutant's file has the edit, or this text in its place."""
+        file = self.root / mutant.path.relative_to(self.repository.root)
+        file.write_text(text or mutant.text())
+        try:
+            yield
+        finally:
+            file.write_text(mutant.source.text)
+
+    def rt(self, crate, *words, seconds):
+        return run(["rt", *words], seconds, cwd=self.folder(crate), stdin=subprocess.DEVNULL)
 
 
 def contents(base, files):

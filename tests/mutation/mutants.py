@@ -149,8 +149,10 @@ class Edits:
 
     def string(self, i):
         """Each byte; of a long text the first and the last."""
-        start = self.tokens[i].start + 2
-        spelled = list(pieces(self.tokens[i].text[2:-1]))
+        text = self.tokens[i].text
+        opening = text.index('"') + 1
+        start = self.tokens[i].start + opening
+        spelled = list(pieces(text[opening:-1]))
         for k, (text, value) in enumerate(spelled):
             if len(spelled) <= LONG or k in (0, len(spelled) - 1):
                 for new in changed(value):
@@ -161,7 +163,8 @@ class Edits:
 
     def operator(self, i):
         op = self.tokens[i].text
-        if op == "!":
+        is_macro = self.tokens[i - 1].kind == "word" and self.tokens[i - 1].text not in BORDERS
+        if op == "!" and not is_macro:
             self.add("operator", i, i + 2, self.span(i + 1, i + 2))
         if op == "-" and not self.is_binary(i):
             self.add("operator", i, i + 2, self.span(i + 1, i + 2))
@@ -299,9 +302,12 @@ class Edits:
         for i in range(self.first + 1, self.last):
             text = self.tokens[i].text
             if text in ("if", "while") and self.tokens[i + 1].text != "let":
-                opening = self.block_after(i)
+                opening = self.source.next_of(i + 1, {"{", "=>"})  # an arm's `if` has no block
                 self.condition(i, opening)
-                self.statements(opening)
+                if self.tokens[opening].text == "{":
+                    self.statements(opening)
+            elif text == "for":
+                self.statements(self.block_after(i))
             elif text == "match":
                 self.arms(self.block_after(i))
             elif text in ("else", "loop", "=>") and self.tokens[i + 1].text == "{":
@@ -328,8 +334,8 @@ class Edits:
             return
         self.add("branch", a, b, "true")
         self.add("branch", a, b, "false")
-        closing = self.pairs[opening]
-        if self.tokens[i].text == "if" and self.tokens[closing + 1].text == "else" and self.tokens[closing + 2].text == "{":
+        closing = self.pairs.get(opening)
+        if self.tokens[i].text == "if" and closing and self.tokens[closing + 1].text == "else" and self.tokens[closing + 2].text == "{":
             other = closing + 2
             end = self.pairs[other] + 1
             self.add("branch", opening, end, f"{self.span(other, end)} else {self.span(opening, closing + 1)}")
@@ -373,7 +379,7 @@ class Edits:
             head = self.tokens[a].text
             if head == "if" and self.tokens[b - 1].text == "}" and "return" in self.span(a, b) and " else " not in self.span(a, b):
                 self.add("branch", a, b, "")
-            elif self.tokens[b - 1].text != ";" or head in ("return", "while", "if", "match", "loop"):
+            elif self.tokens[b - 1].text != ";" or head in ("return", "while", "if", "match", "loop", "for"):
                 continue
             elif head != "let" or self.is_bound_anew(a):
                 self.add("branch", a, b, "")
@@ -387,7 +393,7 @@ class Edits:
         while i < closing:
             t = self.tokens[i]
             if t.kind == "mark" and t.text in "([{":
-                is_block = t.text == "{" and self.tokens[start].text in ("if", "while", "match", "loop")
+                is_block = t.text == "{" and self.tokens[start].text in ("if", "while", "match", "loop", "for")
                 i = self.pairs[i]
                 if is_block and self.tokens[i + 1].text != "else" and self.tokens[i + 1].text != ";":
                     yield start, i + 1

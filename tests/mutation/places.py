@@ -7,7 +7,8 @@ ASSIGNS = {"=", "+=", "-=", "*=", "/=", "%="}
 
 class Places:
     """Stretches of a function's code, each with a label: the name bound, assigned or indexed, a field written out, a called function,
-    an arm's variant, or `if`, `while` and `match` for what stands between the word and the block (of `if let` too), and `else` for the block."""
+    an arm's variant, or `if`, `while`, `match` and `for` for what stands between the word and the block (of `if let` too), and `else` for the
+    block."""
 
     def __init__(self, source, function):
         self.source, self.tokens, self.pairs = source, source.tokens, source.pairs
@@ -29,8 +30,8 @@ class Places:
         if text == "let" and before not in ("if", "while"):
             name = i + 2 if after == "mut" else i + 1
             self._add(self.tokens[name].text, i, self.source.next_of(i, {";"}))
-        elif text in ("if", "while", "match"):
-            self._add(text, i, self.source.next_of(i, {"{"}) - 1)
+        elif text in ("if", "while", "match", "for"):
+            self._add(text, i, self.source.next_of(i, {"{", "=>"}) - 1)
         elif text == "else" and after == "{":
             self._add(text, i, self.pairs[i + 1])
         elif text == "=>":

@@ -3,12 +3,12 @@ import re
 from collections import namedtuple
 
 Token = namedtuple("Token", "kind text start end")
-Function = namedtuple("Function", "name params result first last is_public")
+Function = namedtuple("Function", "name params result head first last is_public")
 Constant = namedtuple("Constant", "name type first last")
 
 PATTERN = re.compile(r"""
     (?P<space>\s+|//[^\n]*)
-  | (?P<string>b"(?:[^"\\]|\\.)*")
+  | (?P<string>b?"(?:[^"\\]|\\.)*")
   | (?P<byte>b'(?:[^'\\]|\\x[0-9a-fA-F]{2}|\\.)')
   | (?P<number>0x[0-9a-fA-F_]+|\d[\d_]*(?:[ui](?:8|16|32|64|size))?)
   | (?P<word>[^\W\d]\w*)
@@ -101,7 +101,9 @@ class Source:
 
     def _use(self, i):
         end = self.next_of(i, {";"})
-        self.imported.add(self.tokens[end - 1].text)
+        opening = next((k for k in range(i, end) if self.tokens[k].text == "{"), None)
+        names = self.parts(opening + 1, self.pairs[opening], ",") if opening else [(i, end)]
+        self.imported.update(self.tokens[b - 1].text for _, b in names)
         return end + 1
 
     def _field(self, first, last):
@@ -156,7 +158,7 @@ class Source:
         while self.tokens[at].text in CLAUSES:
             at = self.pairs[self.next_of(at, {"{"})] + 1
         is_public = i > 0 and self.tokens[i - 1].text == "pub"
-        self.functions.append(Function(self.tokens[i + 1].text, params, result, at, self.pairs[at], is_public))
+        self.functions.append(Function(self.tokens[i + 1].text, params, result, i, at, self.pairs[at], is_public))
         return self.pairs[at] + 1
 
 

@@ -1,108 +1,20 @@
-"""Runs the programs with a mutant, built without proof, and compares what they write."""
-import filecmp
+"""Runs the programs with a mutant, and compares what they write."""
 import hashlib
-import resource
+import re
 import shutil
-import subprocess
-import tempfile
-from pathlib import Path
 
 from kit import run
+from prove import first_error
 from source import tokens_of
 
-BUILD_SECONDS, RUN_SECONDS = 60, 20
-COMPILED_SAME, IN_NO_PROGRAM = "it compiles to the same code in the programs", "in no program"
+TRY_SECONDS, BUILD_SECONDS, SCRIPT_SECONDS = 600, 3600, 60
+WRITE_THE_SAME, COMPILED_SAME, IN_NO_PROGRAM = "the programs write the same", "it compiles to the same code in the programs", "in no program"
 
 
 class Trial:
-    def __init__(self, repository):
-        self.repository, self.kit = repository, repository.kit
-        self.tools = repository.work / "toolchain"
-        self.caught = repository.work / "caught"
-        self._make_tools()
+    def __init__(self, room):
+        self.room, self.repository = room, room.repository
         self.plain = {}
-
-    def _make_tools(self):
-        """A toolchain whose compiler keeps the first module that it is given, compiled as `rt check` does, and then stops."""
-        shutil.rmtree(self.tools, ignore_errors=True)
-        (self.tools / "bin").mkdir(parents=True)
-        (self.tools / "lib").symlink_to((self.kit.tools / "lib").resolve())
-        for name in ("ld.lld", "llvm-ar"):
-            (self.tools / "bin" / name).symlink_to(self.kit.tools / "bin" / name)
-        script = self.tools / "bin" / "clang"
-        script.write_text(f"""#!/bin/sh
-set -e
-for word; do shift; case $word in -O0) set -- "$@" -O3 -Xclang -fmerge-functions -mllvm -mergefunc-use-aliases ;; *) set -- "$@" "$word" ;; esac; done
-"{self.kit.tools}/bin/clang" "$@"
-cp module.bc module.o "{self.caught}/"
-exit 1
-""")
-        script.chmod(0o755)
-
-    def build(self, program, edited, file):
-        """The program with one crate's root file replaced: its module's and its code's sums, or None where there is none."""
-        shutil.rmtree(self.caught, ignore_errors=True)
-        self.caught.mkdir()
-        root = file if edited == program else self.repository.root_file(program)
-        words = [self.kit.command("rattle-cases"), "--toolchain", str(self.tools), str(root), "--crate-name", program,
-                 "--lib", f"std={self.kit.home}/libs/std/src/lib.rt"]
-        for d in self.repository.reached(program):
-            source = file if d == edited else self._library(d)
-            words += ["--lib", f"{d}={source}"]
-        run(words, BUILD_SECONDS, stdin=subprocess.DEVNULL)
-        if not (self.caught / "module.o").exists():
-            return None
-        return tuple(hashlib.sha256((self.caught / part).read_bytes()).hexdigest() for part in ("module.bc", "module.o"))
-
-    def _library(self, name):
-        if name in self.repository.deps:
-            return self.repository.root_file(name)
-        return self.kit.home / "libs" / name / "src" / "lib.rt"
-
-    def run(self, program):
-        """Whether the program last built writes what its file has."""
-        with tempfile.TemporaryDirectory() as room:
-            binary = Path(room) / "program"
-            words = [self.kit.command("rattle-link"), "--target", "x86_64-unknown-linux-gnu", "--toolchain", str(self.kit.tools),
-                     "-o", str(binary), str(self.caught / "module.o")]
-            if "os" in self.repository.reached(program):
-                words.append(str(self.kit.home / "lib" / "libos_c.a"))
-            status, said = run(words, BUILD_SECONDS)
-            if status != 0:
-                raise SystemExit(f"mutation: {program} was not linked: {said}")
-            return self._writes(program, binary, Path(room)) and self._fails(program, binary)
-
-    def _loaded(self, binary):
-        return [str(self.kit.tools / "lib" / "ld-linux-x86-64.so.2"), "--library-path", str(self.kit.tools / "lib"), str(binary)]
-
-    def _fails(self, program, binary):
-        """Whether the program says what it should where it cannot read or write."""
-        script = self.repository.failures(program)
-        return not script.exists() or run([str(script), *self._loaded(binary)], BUILD_SECONDS)[0] == 0
-
-    def _writes(self, program, binary, room):
-        folder = self.repository.folder(program)
-        data = room / "data"
-        if (folder / "data").exists():
-            shutil.copytree(folder / "data", data)
-        else:
-            data.mkdir()
-        args = (folder / "args").read_text().splitlines() if (folder / "args").exists() else []
-        stdin = folder / "stdin" if (folder / "stdin").exists() else Path("/dev/null")
-        with open(stdin, "rb") as read, open(room / "wrote", "wb") as write:
-            try:
-                done = subprocess.run([*self._loaded(binary), *args], stdin=read, stdout=write, stderr=subprocess.DEVNULL,
-                                      timeout=RUN_SECONDS, cwd=data, preexec_fn=limit)
-            except subprocess.TimeoutExpired:
-                return False
-        return done.returncode == 0 and filecmp.cmp(room / "wrote", folder / "stdout", shallow=False)
-
-    def plain_sums(self, program):
-        if program not in self.plain:
-            self.plain[program] = self.build(program, None, None)
-            if not self.plain[program] or not self.run(program):
-                raise SystemExit(f"mutation: {program} does not write what its file stdout has, with no edit")
-        return self.plain[program]
 
     def _groups(self, crate):
         """The programs that have a crate. Those of one code, which only run on other files, are together: they are built once."""
@@ -111,30 +23,77 @@ exit 1
             if crate in (p, *self.repository.reached(p)):
                 words = tuple(t.text for t in tokens_of(self.repository.root_file(p).read_text()))
                 groups.setdefault(p if p == crate else (words, *self.repository.deps[p]), []).append(p)
-        return groups.values()
+        return list(groups.values())
 
-    def verdict(self, mutant, file):
+    def verdict(self, mutant, is_proved):
         """`seen` by a program's run, `same code` once compiled, or `survives`; and why. A library that may be called with other values
         than the programs have is not the same for being so in them."""
-        changed = ran = False
-        for first, *others in self._groups(mutant.crate):
-            plain, sums = self.plain_sums(first), self.build(first, mutant.crate, file)
-            if sums is None:
-                return "seen", f"{first} is not built, or does not end on an empty input"
-            changed = changed or sums[0] != plain[0]
-            if sums[1] != plain[1]:
-                ran = True
-                for program in (first, *others):
-                    if not self.run(program):
-                        return "seen", f"{program} writes something else"
-        if ran:
-            return "survives", "the programs write the same"
-        if changed:
-            return "same code" if mutant.source.is_closed() else "survives", COMPILED_SAME
-        return "survives", IN_NO_PROGRAM
+        groups = self._groups(mutant.crate)
+        for group in groups:
+            with self.room.edited(mutant):
+                why = self._seen(group)
+            if why:
+                return "seen", why
+        if not groups:
+            return "survives", IN_NO_PROGRAM
+        return self._compiled(mutant, groups) if is_proved else ("survives", WRITE_THE_SAME)
 
+    def _seen(self, group):
+        """Runs the programs of one code, built without proof, on their files; answers what is not as it should be."""
+        cases = self.room.root / "cases"
+        shutil.rmtree(cases, ignore_errors=True)
+        cases.mkdir()
+        for p in group:
+            folder = self.repository.folder(p)
+            for part, name in (("stdin", p), ("stdout", f"{p}.stdout"), ("args", f"{p}.args")):
+                if (folder / part).exists():
+                    shutil.copy(folder / part, cases / name)
+                elif part == "stdin":
+                    (cases / name).touch()
+        # An interpreter would run it too, more slowly: it is stopped at once.
+        status, said = self.room.rt(group[0], "try", "--steps", "1000", "--cases", str(cases), seconds=TRY_SECONDS)
+        if status is None:
+            return f"{group[0]} does not end"
+        for p in group:
+            if not re.search(rf"^case={p} run=ended status=0 .*output=expected", said, re.M):
+                told = re.search(rf"^case={p} .*", said, re.M)
+                return told[0] if told else f"{group[0]} is not built: {first_error(said)}"
+        return None
 
-def limit():
-    """A program gone wrong is not to fill the disk or the memory."""
-    resource.setrlimit(resource.RLIMIT_FSIZE, (1 << 28, 1 << 28))
-    resource.setrlimit(resource.RLIMIT_CPU, (RUN_SECONDS, RUN_SECONDS))
+    def _build(self, program):
+        """The sum of the program's machine code, proved and compiled, or None where it is not proved; and what was said."""
+        made = self.room.folder(program) / "out" / f"{program}.o"
+        made.unlink(missing_ok=True)
+        said = self.room.rt(program, "run", seconds=BUILD_SECONDS)[1]
+        return (hashlib.sha256(made.read_bytes()).hexdigest() if re.search(r"^rt: running ", said, re.M) else None), said
+
+    def _fails(self, program):
+        """Whether the program says what it should where it cannot read or write."""
+        script = self.repository.failures(program)
+        return not script.exists() or run([str(script), str(self.room.folder(program) / "out" / program)], SCRIPT_SECONDS)[0] == 0
+
+    def _plain(self, program):
+        if program not in self.plain:
+            self.plain[program], said = self._build(program)
+            if not self.plain[program] or not self._fails(program):
+                raise SystemExit(f"mutation: {program} is not proved, or says something else where it cannot read or write, with no edit\n{said[-2000:]}")
+        return self.plain[program]
+
+    def _compiled(self, mutant, groups):
+        """What becomes of a proved mutant whose programs write the same."""
+        same = True
+        for first, *others in groups:
+            # One program of a group is enough to compare, but for those with a script of their own.
+            for p in [first, *(p for p in others if self.repository.failures(p).exists())]:
+                plain = self._plain(p)
+                with self.room.edited(mutant):
+                    code, said = self._build(p)
+                if not code:
+                    return "refused", first_error(said)
+                if code != plain:
+                    same = False
+                    if not self._fails(p):
+                        return "seen", f"{p} says something else where it cannot read or write"
+        if not same:
+            return "survives", WRITE_THE_SAME
+        return ("same code" if mutant.source.is_closed() else "survives"), COMPILED_SAME

@@ -35,7 +35,7 @@ pub fn read(mut words: impl Iterator<Item = String>) -> Result<Args, String> {
         time: Duration::from_secs(60),
         lines: u64::MAX,
     };
-    let mut replay = PathBuf::from("target/bin/replay");
+    let mut replay = PathBuf::from("crates/replay/out/replay");
     let mut fixed_lines = None;
     let mut answers = false;
     let mut check = None;

@@ -50,7 +50,7 @@ fn fuzz_program(program: PathBuf, bounds: &Bounds, out: &mut impl Write) -> io::
     let program = path::absolute(&program).unwrap_or(program);
     if !program.is_file() {
         eprintln!("There is no replay program at {}.", program.display());
-        eprintln!("Build it with `rt check replay`, or name another with --replay PROGRAM.");
+        eprintln!("Build it with `rt run < stdin` in crates/replay, or name another with --replay PROGRAM.");
         return Ok(ExitCode::from(2));
     }
     let run = run(&OnDisk { program }, bounds);
