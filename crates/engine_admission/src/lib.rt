@@ -17,6 +17,7 @@ pub enum Check {
 }
 
 // The rows 1, 3 and 4, of a state that is sound or not and has this latest time.
+#[tactic(auto, using(crate::proofs::AdmissionLaws::admit_ends))]
 pub fn admit(sound: bool, latest: Time, time: Time) -> Check
     ensures { check_of result ≡ first_rows sound latest time }
 {

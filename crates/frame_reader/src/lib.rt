@@ -21,6 +21,7 @@ fn is_known_frame(bytes: &[u8]) -> bool
 }
 
 // Reads the first 28 bytes.
+#[tactic(auto, using(crate::proofs::ReaderLaws::read_ends))]
 pub fn read(bytes: &[u8]) -> ReadAnswer
     ensures { read_report result ≡ read_of bytes.now }
 {
