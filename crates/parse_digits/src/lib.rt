@@ -66,7 +66,7 @@ fn first_19(text: &[u8]) -> Digits
 }
 
 // With a twentieth digit too, if they then stand for less than 2^64.
-#[tactic(auto, using(crate::proofs::Scan::passes, crate::proofs::Scan::read_fewer, crate::proofs::Scan::read_ended, crate::proofs::Scan::read_20, crate::proofs::Scan::read_stopped))]
+#[tactic(auto, using(crate::proofs::Scan::read_ended))]
 pub fn first_20(text: &[u8]) -> Digits
     ensures { Read 20 text.now result.value result.count }
 {
