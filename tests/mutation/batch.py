@@ -12,9 +12,8 @@ def calls_of(source):
     names = {f.name for f in source.functions}
     direct = {}
     for f in source.functions:
-        called = {source.tokens[i].text for i in range(f.first, f.last) if source.tokens[i + 1].text == "("
-                  and source.tokens[i - 1].text != "::"}
-        direct[f.name] = called & names
+        words = {t.text for t in source.tokens[f.first:f.last]}
+        direct[f.name] = {name for name in names if name.split("::")[-1] in words}
     for via in names:
         for f in names:
             if via in direct[f]:
@@ -93,11 +92,12 @@ class Batches:
 
     def _refused(self, batch, text, said):
         """The mutants whose functions are not proved, for their own sake. Those that are proved are checked alone: whether the code is
-        the same shows only there."""
+        the same shows only there. So are those of which only a closure is not proved."""
         lines, refused = self._lines(batch, text), {}
         for m in batch:
             if re.search(rf"^fn {m.crate}::{m.function}: (?:not proved|no proof)", said, re.M):
-                own = [e for e in errors_of(said) if is_in(e, lines[m.function]) or e.startswith(f"proofs/{m.function}/")]
+                folder = f"proofs/{m.function.replace('::', '/')}/"
+                own = [e for e in errors_of(said) if is_in(e, lines[m.function]) or e.startswith((folder, folder.replace("/", "/+", 1)))]
                 if own:
                     refused[m] = ("refused", first_error("\n".join(own)))
         return refused

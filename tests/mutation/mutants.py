@@ -17,7 +17,13 @@ ORDERED = {"<", "<=", ">", ">=", "-", "/", "%", "<<", ">>"}  # the operands may 
 STRENGTH = {"*": 9, "/": 9, "%": 9, "+": 8, "-": 8, "<<": 7, ">>": 7, "&": 6, "^": 5, "|": 4,
             "<": 3, "<=": 3, ">": 3, ">=": 3, "==": 3, "!=": 3, "&&": 2, "||": 1}
 BORDERS = {"=", ";", ",", "=>", "+=", "-=", "*=", "/=", "%=", "..", "..=", "return", "if", "while", "match", "let", "else", "in"}
-WRAPPING = re.compile(r"wrapping_(add|sub|mul)_(\w+)")
+# The methods that stand for an operator, and those that become each other as easily.
+NEIGHBOURS = {"wrapping_add": ["wrapping_sub"], "wrapping_sub": ["wrapping_add"], "wrapping_mul": ["wrapping_add", "wrapping_sub"],
+              "saturating_add": ["saturating_sub"], "saturating_sub": ["saturating_add"],
+              "checked_add": ["checked_sub", "checked_mul"], "checked_sub": ["checked_add"], "checked_mul": ["checked_add"],
+              "min": ["max"], "max": ["min"], "all": ["any"], "any": ["all"],
+              "is_some": ["is_none"], "is_none": ["is_some"], "is_ok": ["is_err"], "is_err": ["is_ok"],
+              "is_some_and": ["is_none_or"], "is_none_or": ["is_some_and"]}
 LONG = 16
 ESCAPES = {"t": 9, "n": 10, "r": 13, "0": 0, "\\": 92, '"': 34, "'": 39}
 
@@ -65,7 +71,8 @@ def mutants_of(source, declared):
             m.is_constant = True
         found += made
     for function in source.functions:
-        names, places = Names(source, declared, function), Places(source, function)
+        names = Names(source, declared, function)
+        places = Places(source, function, names)
         made = Edits(source, declared, function.name, function.first, function.last, names).all()
         for m in made:
             m.places = places.around(m.start)
@@ -127,7 +134,7 @@ class Edits:
     def is_binary(self, i):
         before = self.tokens[i - 1]
         if before.kind == "mark":
-            return before.text in (")", "]")
+            return before.text in (")", "]", "?")
         return before.text not in BORDERS
 
     # -- constants
@@ -185,6 +192,8 @@ class Edits:
 
     def stops(self, i, strength):
         t = self.tokens[i]
+        if t.text == "|" and self.names and i in self.names.binding:  # a closure's bar
+            return True
         return t.text in BORDERS or t.kind == "mark" and STRENGTH.get(t.text, 99) < strength and self.is_binary(i)
 
     def left(self, i):
@@ -218,7 +227,7 @@ class Edits:
         text, after, before = self.tokens[i].text, self.tokens[i + 1].text, self.tokens[i - 1].text
         if text in ("true", "false"):
             self.add("constant", i, i + 1, "false" if text == "true" else "true")
-        elif before == ".":
+        elif before == "." and after != "(":
             self.field(i)
         elif before == "::" and self.tokens[i - 2].text in self.declared.enums:
             self.variant(i)
@@ -229,8 +238,6 @@ class Edits:
 
     def field(self, i):
         text = self.tokens[i].text
-        if self.tokens[i + 1].text == "(":
-            return
         for fields in self.declared.structs.values():
             if text in fields:
                 for other, kind in fields.items():
@@ -246,21 +253,27 @@ class Edits:
 
     def call(self, i):
         text, opening = self.tokens[i].text, i + 1
-        arguments = self.source.parts(opening + 1, self.pairs[opening], ",")
+        arguments = self.source.parts(opening + 1, self.pairs[opening], ",", self.names.binding if self.names else ())
         for (a, b), (c, d) in zip(arguments, arguments[1:]):
             if self.span(a, b) != self.span(c, d):
                 between = self.source.text[self.tokens[b - 1].end:self.tokens[c].start]
                 self.add("operand", a, d, self.span(c, d) + between + self.span(a, b))
-        wrapping = WRAPPING.fullmatch(text)
-        if wrapping:
-            for other in {"add", "sub"} - {wrapping.group(1)}:
-                self.add("operator", i, i + 1, f"wrapping_{other}_{wrapping.group(2)}")
-        crate = self.tokens[i - 2].text if self.tokens[i - 1].text == "::" else self.source.crate
-        signature = self.declared.signature(crate, text)
-        if signature:
-            for other in self.declared.functions[crate]:
-                if other not in (text, self.name) and self.declared.signature(crate, other) == signature:
+        for other in NEIGHBOURS.get(text, ()):
+            self.add("operator", i, i + 1, other)
+        for owner in self.owners(i):
+            signature = self.declared.signature(owner, text)
+            for other in self.declared.functions[owner] if signature else ():
+                if other not in (text, self.name.split("::")[-1]) and self.declared.signature(owner, other) == signature:
                     self.add("operand", i, i + 1, other)
+
+    def owners(self, i):
+        """The crate or the types of which a called function may be."""
+        before, owner = self.tokens[i - 1].text, self.tokens[i - 2].text
+        if before == ".":
+            return [f.owner for functions in self.declared.functions.values() for n, f in functions.items() if f.owner and n == self.tokens[i].text]
+        if before != "::":
+            return [self.source.crate]
+        return [self.names.function.owner if owner == "Self" else owner]
 
     def name_used(self, i):
         """A local or a constant becomes another of its type."""
@@ -288,41 +301,58 @@ class Edits:
         return same + unknown[:2]
 
     def in_literal(self, i):
-        """Whether the brackets around a token are those of a struct or a variant written out."""
+        """Where the brackets around a token begin, if they are those of a struct or a variant written out."""
         while self.tokens[i].text != "{" or self.tokens[i].kind != "mark":
             i -= 1
+            if self.tokens[i].kind == "mark" and self.tokens[i].text in "([":
+                return None
             if self.tokens[i].kind == "mark" and self.tokens[i].text in ")]}":
                 i = self.pairs[i] - 1
-        return self.tokens[i - 1].kind == "word" and self.tokens[i - 1].text[0].isupper()
+        return i if self.tokens[i - 1].kind == "word" and self.tokens[i - 1].text[0].isupper() else None
 
     # -- branches and statements
 
     def blocks(self):
         self.statements(self.first)
         for i in range(self.first + 1, self.last):
-            text = self.tokens[i].text
-            if text in ("if", "while") and self.tokens[i + 1].text != "let":
-                opening = self.source.next_of(i + 1, {"{", "=>"})  # an arm's `if` has no block
+            text, after = self.tokens[i].text, self.tokens[i + 1].text
+            if text in ("if", "while") and after != "let":
+                opening = self.source.next_of(i + 1, {"{", "=>", ")"})  # a guard's `if` has no block
                 self.condition(i, opening)
                 if self.tokens[opening].text == "{":
                     self.statements(opening)
-            elif text == "for":
-                self.statements(self.block_after(i))
+            elif text in ("if", "while", "for"):
+                self.statements(self.source.block_after(i))
             elif text == "match":
-                self.arms(self.block_after(i))
-            elif text in ("else", "loop", "=>") and self.tokens[i + 1].text == "{":
+                self.arms(self.source.block_after(i))
+            elif text == "matches" and after == "!":
+                self.matched(i)
+            elif text == ".." and i not in self.names.binding:
+                self.update(i)
+            elif text in ("else", "loop", "=>") and after == "{":
                 self.statements(i + 1)
 
-    def block_after(self, i):
-        """The block that follows a condition, which holds no struct written out."""
-        i += 1
-        while self.tokens[i].text != "{":
-            i = self.pairs[i] + 1 if self.tokens[i].text in "([" else i + 1
-        return i
+    def matched(self, i):
+        """`matches!` negated, and each alternative of its pattern left out."""
+        closing = self.pairs[i + 2]
+        self.add("branch", i, closing + 1, f"!{self.span(i, closing + 1)}")
+        comma = self.source.next_of(i + 3, {","})
+        alternatives = self.source.parts(comma + 1, self.source.next_of(comma, {"if", ")"}), "|")
+        for (a, _), (b, _) in zip(alternatives, alternatives[1:]):
+            self.add("branch", a, b, "")
+        if len(alternatives) > 1:
+            self.add("branch", alternatives[-2][1], alternatives[-1][1], "")
+
+    def update(self, i):
+        """A field that is written out beside `..` left out."""
+        opening = self.tokens[i - 1].text == "," and self.in_literal(i)
+        if opening:
+            for a, b in self.source.parts(opening + 1, i, ","):
+                self.add("branch", a, b + 1, "")
 
     def condition(self, i, opening):
         a, b = i + 1, opening
-        depth0 = [k for k in self.outside(a, b) if self.is_binary(k) and self.tokens[k].kind == "mark"]
+        depth0 = [k for k in self.source.outside(a, b) if self.is_binary(k) and self.tokens[k].kind == "mark"]
         compared = [k for k in depth0 if self.tokens[k].text in COMPARE]
         joined = any(self.tokens[k].text in ("&&", "||", "&", "|", "^") for k in depth0)
         if len(compared) == 1 and not joined:
@@ -342,36 +372,15 @@ class Edits:
         elif self.tokens[a].text != "!":
             self.add("branch", a, b, f"!({self.span(a, b)})" if b > a + 1 else f"!{self.span(a, b)}")
 
-    def outside(self, a, b):
-        """The indices of a range that stand in no bracket."""
-        i = a
-        while i < b:
-            yield i
-            i = self.pairs[i] + 1 if self.tokens[i].kind == "mark" and self.tokens[i].text in "([{" else i + 1
-
     def arms(self, opening):
         """The bodies of two neighbouring arms swapped."""
-        bodies, i, closing = [], opening + 1, self.pairs[opening]
-        while i < closing:
-            arrow = self.source.next_of(i, {"=>"})
-            if self.tokens[arrow + 1].text == "{":
-                end = self.pairs[arrow + 1] + 1
-            else:
-                end = min(self.next_comma(arrow + 1, closing), closing)
-            bodies.append((arrow + 1, end))
-            i = end + 1 if self.tokens[end].text == "," else end
+        bodies = [(arrow + 1, end) for _, arrow, end in self.source.arms(opening)]
         for (a, b), (c, d) in zip(bodies, bodies[1:]):
             if self.span(a, b) != self.span(c, d):
                 between = self.source.text[self.tokens[b - 1].end:self.tokens[c].start]
                 if self.tokens[b].text != ",":
                     between = "," + between
                 self.add("branch", a, d, self.span(c, d) + between + self.span(a, b))
-
-    def next_comma(self, i, closing):
-        for k in self.outside(i, closing):
-            if self.tokens[k].text == ",":
-                return k
-        return closing
 
     def statements(self, opening):
         """A statement left out: an assignment, a store, a call, a name bound anew, or an early return."""
@@ -385,8 +394,9 @@ class Edits:
                 self.add("branch", a, b, "")
 
     def is_bound_anew(self, a):
+        """Whether what a `let` binds is a name that is bound already, or none."""
         at = a + 2 if self.tokens[a + 1].text == "mut" else a + 1
-        return self.tokens[at].text in self.names.in_scope(a)
+        return self.tokens[at].text == "_" or self.tokens[at].text in self.names.in_scope(a)
 
     def statements_of(self, opening):
         closing, start, i = self.pairs[opening], opening + 1, opening + 1

@@ -1,14 +1,14 @@
 -- A report says which answer was given: no two answers have the same numbers and values.
 use Prim.Native.Nat.{ℕ, ◌-◌, ◌≤◌}
-use mathlib.Core.Path.{◌≡◌, refl, sym, subst, ap, ap₂, ◌∙◌}
+use mathlib.Core.Path.{◌≡◌, refl, sym, subst, ap, ◌∙◌}
 use mathlib.Core.List.{List, [], ◌∷◌}
 use mathlib.Core.Bool.{Bool, true, false, cond, ◌&&◌}
-use mathlib.Core.Option.{Option, none, some}
+use Rattle.std.specs.Prelude.{Option, None, Some, Result, Ok, Err}
 use lib.Dec.{leb}
 use lib.ListN.{length, get_or}
 use borrow.Author.Tests.{leb-true}
 use Rattle.basis.specs.Bytes.{same_bytes}
-use Rattle.basis.specs.Answers.{kind_word, slot_of, time_of, Accepted, answer_report, refusal_number, refused, accepted, reported, leaves}
+use Rattle.basis.specs.Answers.{kind_word, time_of, Accepted, accepted_of, Answer, answer_report, report_of, refusal_number, refused, accepted, reported, leaves}
 use Rattle.basis.specs.Frame.{read_report, write_report}
 use Rattle.basis.specs.Clock.{ClockReport, clock_report}
 use Rattle.basis.proofs.BytesLaws.{and_both}
@@ -16,14 +16,10 @@ use Rattle.basis.specs.declared.Refusal.{Refusal}
 use Rattle.basis.specs.declared.Refusal.TheVariants.{StateNotSound, HardwareNotAllowed, TimeAboveRange, TimeBelowLatest, BufferTooShort, PacketTooShort, FrameUnknown, AddressNotAllowed, PolicyUnknown, AddressHeld, NoSlotFree, AskedTooSoon, SlotNotHeld, LineMalformed}
 use Rattle.basis.specs.declared.Kind.{Kind}
 use Rattle.basis.specs.declared.Kind.TheVariants.{Fresh, Taken, Nothing, Probe, Announce, Defend, Lost, Kept, Dropped}
-use Rattle.basis.specs.declared.SlotNumber.{SlotNumber}
-use Rattle.basis.specs.declared.SlotNumber.TheVariants.{Absent, Slot}
-use Rattle.basis.specs.declared.Moment.{Moment}
-use Rattle.basis.specs.declared.Moment.TheVariants.{Never, At}
-use Rattle.basis.specs.declared.Answer.{Answer}
-use Rattle.basis.specs.declared.ReadAnswer.{ReadAnswer}
-use Rattle.basis.specs.declared.WriteAnswer.{WriteAnswer}
+use Rattle.basis.specs.declared.Success.{Success}
 use Rattle.basis.specs.declared.ClockAnswer.{ClockAnswer}
+use Rattle.basis.specs.declared.Time.{Time}
+use Rattle.basis.specs.declared.Frame.{Frame}
 
 -- The refusals in the order of their numbers, and the one with a number.
 refusals : List Refusal
@@ -54,28 +50,28 @@ numbered_number LineMalformed = refl
 pub number_tells : (r s : Refusal) → refusal_number r ≡ refusal_number s → r ≡ s
 number_tells r s e = sym (numbered_number r) ∙ ap numbered e ∙ numbered_number s
 
-pub read_tells : (r s : ReadAnswer) → read_report r ≡ read_report s → r ≡ s
-read_tells (ReadAnswer.Refused r) (ReadAnswer.Refused s) e = ap ReadAnswer.Refused (number_tells r s (cc))
-read_tells (ReadAnswer.Refused r) (ReadAnswer.Read g) e = cc
-read_tells (ReadAnswer.Read f) (ReadAnswer.Refused s) e = cc
-read_tells (ReadAnswer.Read f) (ReadAnswer.Read g) e = cc
+-- Two answers of one report are one, where what is told of the rest says which it was.
+report_tells : {A B : Type 0} (told : A → B) → ((a b : A) → told a ≡ told b → a ≡ b) →
+    (r s : Result A Refusal) → report_of told r ≡ report_of told s → r ≡ s
+report_tells told tells (Err r) (Err s) e = ap Err (number_tells r s (cc))
+report_tells told tells (Err r) (Ok b) e = cc
+report_tells told tells (Ok a) (Err s) e = cc
+report_tells told tells (Ok a) (Ok b) e = ap Ok (tells a b (cc))
 
-pub write_tells : (r s : WriteAnswer) → write_report r ≡ write_report s → r ≡ s
-write_tells (WriteAnswer.Refused r) (WriteAnswer.Refused s) e = ap WriteAnswer.Refused (number_tells r s (cc))
-write_tells (WriteAnswer.Refused r) WriteAnswer.Written e = cc
-write_tells WriteAnswer.Written (WriteAnswer.Refused s) e = cc
-write_tells WriteAnswer.Written WriteAnswer.Written e = refl
+time_tells : (s t : Time) → s.0 ≡ t.0 → s ≡ t
+time_tells s t e = λ i. record { 0 = e i }
+
+pub read_tells : (r s : Result Frame Refusal) → read_report r ≡ read_report s → r ≡ s
+read_tells r s e = report_tells (λ frame. frame) (λ f g h. h) r s e
+
+pub write_tells : (r s : Result (Unit {0}) Refusal) → write_report r ≡ write_report s → r ≡ s
+write_tells r s e = report_tells (λ done. done) (λ f g h. h) r s e
 
 pub clock_tells : (r s : ClockAnswer) → clock_report r ≡ clock_report s → r ≡ s
-clock_tells (ClockAnswer.Refused r a) (ClockAnswer.Refused s b) e =
-    let time = ap (λ (c : ClockReport). c.time) e in
-    ap₂ ClockAnswer.Refused (number_tells r s (cc)) (ap (λ (c : ClockReport). c.step) e)
-clock_tells (ClockAnswer.Refused r a) (ClockAnswer.Widened t b) e = let time = ap (λ (c : ClockReport). c.time) e in cc
-clock_tells (ClockAnswer.Widened t a) (ClockAnswer.Refused s b) e = let time = ap (λ (c : ClockReport). c.time) e in cc
-clock_tells (ClockAnswer.Widened t a) (ClockAnswer.Widened u b) e =
-    let time = ap (λ (c : ClockReport). c.time) e in
-    let ms : t.0 ≡ u.0 = cc in
-    ap₂ ClockAnswer.Widened (λ i. record { 0 = ms i }) (ap (λ (c : ClockReport). c.step) e)
+clock_tells r s e =
+    let steps = ap (λ (c : ClockReport). c.step) e in
+    let times = report_tells (λ (time : Time). time.0) time_tells r.time s.time (ap (λ (c : ClockReport). c.time) e) in
+    λ i. record { step = steps i; time = times i }
 
 -- The kind with a word.
 kinds : List Kind
@@ -128,45 +124,38 @@ kind_at_most kind =
 pub word_tells : (j k : Kind) → kind_word j ≡ kind_word k → j ≡ k
 word_tells j k e = sym (worded_word j) ∙ ap (worded kinds) e ∙ worded_word k
 
-slot_tells : (s t : SlotNumber) → slot_of s ≡ slot_of t → s ≡ t
-slot_tells Absent Absent e = refl
-slot_tells Absent (Slot n) e = cc
-slot_tells (Slot m) Absent e = cc
-slot_tells (Slot m) (Slot n) e = cc
+moment_tells : (s t : Option Time) → time_of s ≡ time_of t → s ≡ t
+moment_tells None None e = refl
+moment_tells None (Some t) e = cc
+moment_tells (Some s) None e = cc
+moment_tells (Some s) (Some t) e = ap Some (time_tells s t (cc))
 
-moment_tells : (s t : Moment) → time_of s ≡ time_of t → s ≡ t
-moment_tells Never Never e = refl
-moment_tells Never (At t) e = cc
-moment_tells (At s) Never e = cc
-moment_tells (At s) (At t) e = let ms : s.0 ≡ t.0 = cc in ap At (λ i. record { 0 = ms i })
+success_tells : (a b : Success) → accepted_of a ≡ accepted_of b → a ≡ b
+success_tells a b e =
+    let kinds = ap (λ (c : Accepted). c.kind) e in
+    let slots = ap (λ (c : Accepted). c.slot) e in
+    let nexts = moment_tells a.next b.next (ap (λ (c : Accepted). c.next) e) in
+    λ i. record { kind = kinds i; slot = slots i; next = nexts i }
 
 pub answer_tells : (r s : Answer) → answer_report r ≡ answer_report s → r ≡ s
 unfolding answer_report
-answer_tells (Answer.Refused r) (Answer.Refused s) e = ap Answer.Refused (number_tells r s (cc))
-answer_tells (Answer.Refused r) (Answer.Accepted k s n) e = cc
-answer_tells (Answer.Accepted k s n) (Answer.Refused r) e = cc
-answer_tells (Answer.Accepted j s m) (Answer.Accepted k t n) e =
-    let said : ◌≡◌ {A = Accepted} (record { kind = j; slot = slot_of s; next = time_of m }) (record { kind = k; slot = slot_of t; next = time_of n }) = cc in
-    λ i. Answer.Accepted
-    (ap (λ (a : Accepted). a.kind) said i)
-    (slot_tells s t (ap (λ (a : Accepted). a.slot) said) i)
-    (moment_tells m n (ap (λ (a : Accepted). a.next) said) i)
+answer_tells r s e = report_tells accepted_of success_tells r s e
 
 -- What a report says of the refusal, and so of what the call leaves.
 module _ {A : Type 0} where
-  pub accepted_none : (refusal : Option ℕ) (a b : A) → accepted a ≡ reported refusal b → refusal ≡ none
-  accepted_none none a b e = refl
-  accepted_none (some n) a b e = cc
+  pub accepted_none : (refusal : Option ℕ) (a b : A) → accepted a ≡ reported refusal b → refusal ≡ None
+  accepted_none None a b e = refl
+  accepted_none (Some n) a b e = cc
 
   pub accepted_same : (refusal : Option ℕ) (a b : A) → accepted a ≡ reported refusal b → a ≡ b
-  accepted_same none a b e = cc
-  accepted_same (some n) a b e = cc
+  accepted_same None a b e = cc
+  accepted_same (Some n) a b e = cc
 
-  pub refused_some : (refusal : Option ℕ) (n : ℕ) (a : A) → refused n ≡ reported refusal a → refusal ≡ some n
-  refused_some none n a e = cc
-  refused_some (some m) n a e = cc
+  pub refused_some : (refusal : Option ℕ) (n : ℕ) (a : A) → refused n ≡ reported refusal a → refusal ≡ Some n
+  refused_some None n a e = cc
+  refused_some (Some m) n a e = cc
 
   pub refused_leaves : {B : Type 0} (refusal : Option ℕ) (n : ℕ) (a : A) (old new : B) → refused n ≡ reported refusal a →
       leaves refusal old new ≡ old
-  refused_leaves none n a old new e = cc
-  refused_leaves (some m) n a old new e = refl
+  refused_leaves None n a old new e = cc
+  refused_leaves (Some m) n a old new e = refl

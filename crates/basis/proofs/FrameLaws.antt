@@ -3,7 +3,7 @@ use Prim.Native.Nat.{ℕ, ◌+◌, ◌≤◌, ◌<◌, ◌^◌}
 use mathlib.Core.Path.{◌≡◌, refl, sym, ap, ◌∙◌}
 use mathlib.Core.List.{List, [], ◌∷◌, ◌++◌}
 use mathlib.Core.Bool.{Bool, true, false, not, ◌&&◌}
-use mathlib.Core.Option.{none}
+use Rattle.std.specs.Prelude.{None}
 use native.Mathlib.Omega.{arith}
 use lib.ListN.{length, take, drop, length-append}
 use lib.Seq.{take-add}
@@ -64,7 +64,7 @@ unfolding frame_bytes announcement
 whole_case_announcement = refl
 
 -- Where no refusal is given, neither row of the two applies.
-neither : (n m : ℕ) (a b : Bool) → n if a else m if not b else none ≡ none → (a ≡ false) × (b ≡ true)
+neither : (n m : ℕ) (a b : Bool) → n if a else m if not b else None ≡ None → (a ≡ false) × (b ≡ true)
 neither n m true b e = (cc, cc)
 neither n m false true e = (refl, refl)
 neither n m false false e = (refl, cc)
@@ -99,17 +99,17 @@ known_fits operation h = go (eqb operation 1) refl
     go false e = let two = eqb-true operation 2 (rw e at h) in omega arith
 
 -- What an accepted write and an accepted read say of what they were given.
-pub write_accepted : (f : Frame) (room : ℕ) → write_refusal f room ≡ none → (frame_length ≤ room) × (is_writable f ≡ true)
+pub write_accepted : (f : Frame) (room : ℕ) → write_refusal f room ≡ None → (frame_length ≤ room) × (is_writable f ≡ true)
 unfolding write_refusal
 write_accepted f room e =
     let facts = neither 5 7 (ltb room frame_length) (is_writable f) e in
     (ltb-false room frame_length facts.0, facts.1)
 
-write_passes : (f : Frame) (room : ℕ) → frame_length ≤ room → is_writable f ≡ true → write_refusal f room ≡ none
+write_passes : (f : Frame) (room : ℕ) → frame_length ≤ room → is_writable f ≡ true → write_refusal f room ≡ None
 unfolding write_refusal
 write_passes f room h w = rw (le-ltb room frame_length h, w)
 
-read_accepted : (bytes : List ℕ) → read_refusal bytes ≡ none → (frame_length ≤ length bytes) × (is_known_frame bytes ≡ true)
+read_accepted : (bytes : List ℕ) → read_refusal bytes ≡ None → (frame_length ≤ length bytes) × (is_known_frame bytes ≡ true)
 unfolding read_refusal
 read_accepted bytes e =
     let facts = neither 6 7 (ltb (length bytes) frame_length) (is_known_frame bytes) e in
@@ -156,13 +156,13 @@ frame_reads f rest h hs ht =
     long = rw (length-append (frame_bytes f) rest, frame_length_lem f) (omega arith)
 
 -- An accepted write keeps the rest of the out buffer.
-pub write_keeps_rest : (f : Frame) (out : List ℕ) → write_refusal f (length out) ≡ none → drop frame_length (write_out f out) ≡ drop frame_length out
+pub write_keeps_rest : (f : Frame) (out : List ℕ) → write_refusal f (length out) ≡ None → drop frame_length (write_out f out) ≡ drop frame_length out
 unfolding write_out frame_put frame_bytes
 write_keeps_rest f out e = rw e
 
 -- What was written reads back to the same fields.
 pub written_reads_back : (f : Frame) (out : List ℕ) → Is32 f.sender.ip → Is32 f.target.ip →
-    write_refusal f (length out) ≡ none → read_of (write_out f out) ≡ accepted f
+    write_refusal f (length out) ≡ None → read_of (write_out f out) ≡ accepted f
 unfolding write_out frame_put
 written_reads_back f out hs ht e =
     rw e (frame_reads f (drop frame_length out) (write_accepted f (length out) e).1 hs ht)
@@ -242,7 +242,7 @@ module _ (bytes : List ℕ) (small : are_bytes bytes ≡ true) (long : frame_len
           ++ number_at_bytes 4 24 bytes small (omega arith) i
 
 -- What was read, written again, gives the same 28 bytes.
-pub read_writes_again : (bytes out : List ℕ) → are_bytes bytes ≡ true → read_refusal bytes ≡ none → frame_length ≤ length out →
+pub read_writes_again : (bytes out : List ℕ) → are_bytes bytes ≡ true → read_refusal bytes ≡ None → frame_length ≤ length out →
     (write_of (frame_of bytes) (length out) ≡ accepted tt) × (write_out (frame_of bytes) out ≡ take frame_length bytes ++ drop frame_length out)
 unfolding write_of write_out frame_put
 read_writes_again bytes out small e room =

@@ -1,15 +1,11 @@
 -- Document 01's numbers and values for each case of an answer.
-use Rattle.std.specs.Prelude.{ℕ, Bool, true, false, List, [], ◌∷◌}
-use Rattle.std.proofs.Math.Option.{Option, none, some}
+use Rattle.std.specs.Prelude.{ℕ, Bool, true, false, List, [], ◌∷◌, Option, None, Some, Result, Ok, Err}
 use Rattle.basis.specs.declared.Refusal.{Refusal}
 use Rattle.basis.specs.declared.Refusal.TheVariants.{StateNotSound, HardwareNotAllowed, TimeAboveRange, TimeBelowLatest, BufferTooShort, PacketTooShort, FrameUnknown, AddressNotAllowed, PolicyUnknown, AddressHeld, NoSlotFree, AskedTooSoon, SlotNotHeld, LineMalformed}
 use Rattle.basis.specs.declared.Kind.{Kind}
 use Rattle.basis.specs.declared.Kind.TheVariants.{Fresh, Taken, Nothing, Probe, Announce, Defend, Lost, Kept, Dropped}
-use Rattle.basis.specs.declared.Moment.{Moment}
-use Rattle.basis.specs.declared.Moment.TheVariants.{Never, At}
-use Rattle.basis.specs.declared.SlotNumber.{SlotNumber}
-use Rattle.basis.specs.declared.SlotNumber.TheVariants.{Absent, Slot}
-use Rattle.basis.specs.declared.Answer.{Answer}
+use Rattle.basis.specs.declared.Success.{Success}
+use Rattle.basis.specs.declared.Time.{Time}
 
 -- "Refusal numbers".
 abbrev pub refusal_number : Refusal → ℕ
@@ -32,7 +28,7 @@ refusal_number LineMalformed = 14
 -- applies, and its rows stand in rising order, but for the clock's, whose section has its own (reading lowest-number).
 infixr 20 ◌if◌else◌
 abbrev pub ◌if◌else◌ : ℕ → Bool → Option ℕ → Option ℕ
-n if true else rest = some n
+n if true else rest = Some n
 n if false else rest = rest
 
 -- What a call reports: "its number alone", or what an accepted call has to say.
@@ -40,15 +36,20 @@ pub data Report (A : Type 0) : Type 0 where
   refused : ℕ → Report A
   accepted : A → Report A
 
+-- What the code answers as a report: a refusal by its number, else what this tells of the rest.
+abbrev pub report_of : {A B : Type 0} → (A → B) → Result A Refusal → Report B
+report_of told (Err refusal) = refused (refusal_number refusal)
+report_of told (Ok a) = accepted (told a)
+
 -- The report of a call with this refusal, or none.
 abbrev pub reported : {A : Type 0} → Option ℕ → A → Report A
-reported none a = accepted a
-reported (some n) a = refused n
+reported None a = accepted a
+reported (Some n) a = refused n
 
 -- What a call with this refusal, or none, leaves of a state or a lent buffer: refused, the old; accepted, the new.
 abbrev pub leaves : {A : Type 0} → Option ℕ → A → A → A
-leaves none old new = new
-leaves (some n) old new = old
+leaves None old new = new
+leaves (Some n) old new = old
 
 -- "Kinds: fresh, taken, none, probe, announce, defend, lost, kept, dropped", in this order, as their letters' codes.
 unfoldable pub kind_word : Kind → List ℕ
@@ -79,14 +80,10 @@ handed_out_by Lost = hands_nothing
 handed_out_by Kept = hands_nothing
 handed_out_by Dropped = hands_nothing
 
--- "The slot concerned or none, and the smallest deadline left or none."
-abbrev pub slot_of : SlotNumber → Option ℕ
-slot_of Absent = none
-slot_of (Slot n) = some n
-
-abbrev pub time_of : Moment → Option ℕ
-time_of Never = none
-time_of (At time) = some time.0
+-- A time that may be missing, as a number.
+abbrev pub time_of : Option Time → Option ℕ
+time_of None = None
+time_of (Some time) = Some time.0
 
 -- "Every accepted call reports a kind, the slot concerned or none, and the smallest deadline left or none."
 pub record Accepted : Type 0 where
@@ -94,8 +91,12 @@ pub record Accepted : Type 0 where
   pub slot : Option ℕ
   pub next : Option ℕ
 
--- The answer of fresh, ask, tick, packet and drop in document 01's numbers and values.
+-- The answer of fresh, ask, tick, packet and drop, and its report in document 01's numbers and values.
+abbrev pub Answer : Type 0
+Answer = Result Success Refusal
+
+abbrev pub accepted_of : Success → Accepted
+accepted_of success = record { kind = success.kind; slot = success.slot; next = time_of success.next }
+
 unfoldable pub answer_report : Answer → Report Accepted
-answer_report (Answer.Refused refusal) = refused (refusal_number refusal)
-answer_report (Answer.Accepted kind slot next) =
-    accepted (record { kind = kind; slot = slot_of slot; next = time_of next })
+answer_report answer = report_of accepted_of answer

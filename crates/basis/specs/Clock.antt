@@ -1,10 +1,9 @@
 -- Document 01, "The board's clock", in whole numbers.
-use Rattle.std.specs.Prelude.{ℕ, suc, ◌+◌, ◌-◌, ◌%◌, ◌^◌, ◌≤◌, Bool, true, false, cond, List, [], ◌∷◌, ℤ, pos, negsuc, ◌-ℤ◌, leb, ltb}
-use Rattle.std.proofs.Math.Option.{Option, none}
+use Rattle.std.specs.Prelude.{ℕ, suc, ◌+◌, ◌-◌, ◌%◌, ◌^◌, ◌≤◌, Bool, true, false, cond, List, [], ◌∷◌, ℤ, pos, negsuc, ◌-ℤ◌, leb, ltb, Option, None}
 use Rattle.basis.specs.Times.{last_time}
-use Rattle.basis.specs.Answers.{refusal_number, ◌if◌else◌, Report, refused, accepted, reported}
+use Rattle.basis.specs.Answers.{◌if◌else◌, Report, refused, accepted, report_of, reported}
 use Rattle.basis.specs.declared.ClockAnswer.{ClockAnswer}
-use Rattle.basis.specs.declared.ClockAnswer.TheVariants.{Refused, Widened}
+use Rattle.basis.specs.declared.Time.{Time}
 
 -- "The wrapped difference of the reading and the latest time mod 2^32."
 abbrev pub wrapped : ℕ → ℕ → ℕ
@@ -36,7 +35,7 @@ unfoldable pub clock_refusal : ℕ → ℕ → Option ℕ
 clock_refusal latest reading =
     3 if ltb last_time latest else
     4 if is_negative (clock_step latest reading) else
-    3 if ltb last_time (plus latest (clock_step latest reading)) else none
+    3 if ltb last_time (plus latest (clock_step latest reading)) else None
 
 -- "The step is reported in all these cases": it stands beside the new time or the refusal.
 pub record ClockReport : Type 0 where
@@ -74,5 +73,4 @@ reading_at time = time % 2 ^ 32
 
 -- The answer in document 01's numbers and values.
 abbrev pub clock_report : ClockAnswer → ClockReport
-clock_report (Refused refusal step) = record { step = step; time = refused (refusal_number refusal) }
-clock_report (Widened time step) = record { step = step; time = accepted time.0 }
+clock_report answer = record { step = answer.step; time = report_of (λ (time : Time). time.0) answer.time }

@@ -1,14 +1,12 @@
 -- Document 01, "The frame", and the calls Read and Write.
-use Rattle.std.specs.Prelude.{ℕ, List, [], ◌∷◌, ◌++◌, Bool, not, ◌&&◌, ◌||◌, length, take, drop, eqb, ltb}
-use Rattle.std.proofs.Math.Option.{Option, none}
+use Rattle.std.specs.Prelude.{ℕ, List, [], ◌∷◌, ◌++◌, Bool, not, ◌&&◌, ◌||◌, length, take, drop, eqb, ltb, Option, None, Result}
 use Rattle.basis.specs.Addresses.{is_hardware}
 use Rattle.basis.specs.Bytes.{bytes_of, number_at, same_bytes}
-use Rattle.basis.specs.Answers.{refusal_number, ◌if◌else◌, Report, refused, accepted, reported, leaves}
+use Rattle.basis.specs.Answers.{◌if◌else◌, Report, report_of, reported, leaves}
 use Rattle.basis.specs.declared.Ipv4Address.{Ipv4Address}
 use Rattle.basis.specs.declared.HardwareAddress.{HardwareAddress}
 use Rattle.basis.specs.declared.Frame.{Frame}
-use Rattle.basis.specs.declared.ReadAnswer.{ReadAnswer}
-use Rattle.basis.specs.declared.WriteAnswer.{WriteAnswer}
+use Rattle.basis.specs.declared.Refusal.{Refusal}
 
 -- "28 bytes".
 abbrev pub frame_length : ℕ
@@ -69,7 +67,7 @@ is_known_frame bytes = same_bytes (take 6 bytes) (take 6 request_header) && is_k
 
 -- The refusal of a read: 6, "packet under 28 bytes"; 7, "first six bytes other than ours, or operation not 1 or 2".
 unfoldable pub read_refusal : List ℕ → Option ℕ
-read_refusal bytes = 6 if ltb (length bytes) frame_length else 7 if not (is_known_frame bytes) else none
+read_refusal bytes = 6 if ltb (length bytes) frame_length else 7 if not (is_known_frame bytes) else None
 
 -- Read, for any bytes (reading any-addresses).
 unfoldable pub read_of : List ℕ → Report Frame
@@ -83,7 +81,7 @@ is_writable f = is_known_operation f.operation && is_hardware f.sender.hardware 
 -- The refusal of a write: 5, "out buffer under 28 bytes"; 7, "operation not 1 or 2". Document 01 is silent on a number that
 -- is no hardware address: it is 7 too (readings room-by-length, hardware-48-bits).
 unfoldable pub write_refusal : Frame → ℕ → Option ℕ
-write_refusal f room = 5 if ltb room frame_length else 7 if not (is_writable f) else none
+write_refusal f room = 5 if ltb room frame_length else 7 if not (is_writable f) else None
 
 -- "The 28 bytes at the start of the out buffer, the rest untouched."
 unfoldable pub frame_put : Frame → List ℕ → List ℕ
@@ -97,10 +95,8 @@ unfoldable pub write_out : Frame → List ℕ → List ℕ
 write_out f out = leaves (write_refusal f (length out)) out (frame_put f out)
 
 -- The answers in document 01's numbers and values.
-abbrev pub read_report : ReadAnswer → Report Frame
-read_report (ReadAnswer.Refused refusal) = refused (refusal_number refusal)
-read_report (ReadAnswer.Read frame) = accepted frame
+abbrev pub read_report : Result Frame Refusal → Report Frame
+read_report answer = report_of (λ frame. frame) answer
 
-abbrev pub write_report : WriteAnswer → Report (Unit {0})
-write_report (WriteAnswer.Refused refusal) = refused (refusal_number refusal)
-write_report WriteAnswer.Written = accepted tt
+abbrev pub write_report : Result (Unit {0}) Refusal → Report (Unit {0})
+write_report answer = report_of (λ done. done) answer

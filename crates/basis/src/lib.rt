@@ -3,12 +3,12 @@
 #![tactic(auto)]
 
 // An IPv4 address, its first byte the most significant.
-#[derive(Clone, Copy)]
+#[derive(Clone, Copy, PartialEq, Eq)]
 pub struct Ipv4Address(pub u32);
 
 // A time in whole milliseconds. A larger number than the last time is refused, but a deadline may be larger
 // (reading deadline-above-range).
-#[derive(Clone, Copy)]
+#[derive(Clone, Copy, PartialEq, Eq, PartialOrd, Ord)]
 pub struct Time(pub u64);
 
 pub const LAST_TIME: u64 = 281_474_976_710_655;
@@ -37,7 +37,7 @@ pub const LONGEST_DELAY: u64 = 2_000;
 
 // A hardware address: 48 bits, its first byte the most significant. A larger number stands for no address and is refused
 // (reading hardware-48-bits).
-#[derive(Clone, Copy)]
+#[derive(Clone, Copy, PartialEq, Eq)]
 pub struct HardwareAddress(pub u64);
 
 // The first number above them: 2^48.
@@ -61,30 +61,24 @@ pub struct Frame {
     pub target: Host,
 }
 
-// A time that may be missing: of an ask, of a conflict, or a deadline.
-#[derive(Clone, Copy)]
-pub enum Moment {
-    Never,
-    At(Time),
-}
-
-// The number of a slot, which may be missing.
-#[derive(Clone, Copy)]
-pub enum SlotNumber {
-    Absent,
-    Slot(u64),
-}
-
 // How far a slot's claim has come.
 #[derive(Clone, Copy)]
 pub enum Stage {
     Free,
     // With this many probes sent.
-    Probing { sent: u8, deadline: Time },
+    Probing {
+        sent: u8,
+        deadline: Time,
+    },
     // Announced once, and so usable. `conflict` is the last one seen in this use.
-    Announced { deadline: Time, conflict: Moment },
+    Announced {
+        deadline: Time,
+        conflict: Option<Time>,
+    },
     // Announced twice.
-    Settled { conflict: Moment },
+    Settled {
+        conflict: Option<Time>,
+    },
 }
 
 // A slot's record. In a free one address and policy say nothing (readings free-is-a-stage, any-record).
@@ -107,7 +101,7 @@ pub struct Setup {
 pub struct Interface {
     pub setup: Setup,
     pub latest: Time,
-    pub asked: Moment,
+    pub asked: Option<Time>,
     pub conflicts: u8,
     pub records: [Record; 4],
 }
@@ -143,10 +137,10 @@ pub enum Resolution {
     Keep,
 }
 
-// Why a call is refused, in the order of document 01's numbers, 1 to 14.
+// Why a call is refused, with document 01's numbers, 1 to 14.
 #[derive(Clone, Copy)]
 pub enum Refusal {
-    StateNotSound,
+    StateNotSound = 1,
     HardwareNotAllowed,
     TimeAboveRange,
     TimeBelowLatest,
@@ -176,16 +170,16 @@ pub enum Kind {
     Dropped,
 }
 
-// The answer of fresh, ask, tick, packet and drop, beside the new state. `next` is the smallest deadline left.
+// What an accepted call reports: its kind, the slot concerned, and the smallest deadline left.
 #[derive(Clone, Copy)]
-pub enum Answer {
-    Refused(Refusal),
-    Accepted {
-        kind: Kind,
-        slot: SlotNumber,
-        next: Moment,
-    },
+pub struct Success {
+    pub kind: Kind,
+    pub slot: Option<u64>,
+    pub next: Option<Time>,
 }
+
+// The answer of fresh, ask, tick, packet and drop, beside the new state.
+pub type Answer = Result<Success, Refusal>;
 
 // What fresh, ask, tick, packet and drop hand back: the answer and the state, after a refusal the one handed in.
 #[derive(Clone, Copy)]
@@ -194,23 +188,9 @@ pub struct Called {
     pub state: Interface,
 }
 
-// The answer of read.
+// The answer of the clock: the step, and the new time or a refusal.
 #[derive(Clone, Copy)]
-pub enum ReadAnswer {
-    Refused(Refusal),
-    Read(Frame),
-}
-
-// The answer of write.
-#[derive(Clone, Copy)]
-pub enum WriteAnswer {
-    Refused(Refusal),
-    Written,
-}
-
-// The answer of the clock: a refusal has the step too.
-#[derive(Clone, Copy)]
-pub enum ClockAnswer {
-    Refused { refusal: Refusal, step: i32 },
-    Widened { time: Time, step: i32 },
+pub struct ClockAnswer {
+    pub step: i32,
+    pub time: Result<Time, Refusal>,
 }

@@ -3,7 +3,7 @@ use Prim.Native.Nat.{ℕ, ◌/◌, ◌%◌, ◌^◌, ◌<◌, ◌≤◌}
 use mathlib.Core.Path.{◌≡◌, refl, sym}
 use mathlib.Core.Bool.{Bool, true, false, not, ◌&&◌, ◌||◌}
 use mathlib.Core.List.{List}
-use mathlib.Core.Option.{Option, none}
+use Rattle.std.specs.Prelude.{Option, None, Some}
 use native.Mathlib.Omega.{arith}
 use lib.Dec.{leb, ltb, eqb}
 use borrow.Author.Tests.{ltb-false, leb-true, le-leb, not-false}
@@ -14,8 +14,6 @@ use Rattle.basis.specs.Frame.{probe, announcement, is_writable, frame_put, frame
 use Rattle.basis.specs.declared.Ipv4Address.{Ipv4Address}
 use Rattle.basis.specs.declared.Setup.{Setup}
 use Rattle.basis.specs.declared.Time.{Time}
-use Rattle.basis.specs.declared.Moment.{Moment}
-use Rattle.basis.specs.declared.Moment.TheVariants.{Never, At}
 use Rattle.basis.specs.declared.Record.{Record}
 use Rattle.basis.specs.declared.Interface.{Interface}
 use Rattle.basis.specs.declared.HardwareAddress.{HardwareAddress}
@@ -30,7 +28,7 @@ use Rattle.basis_engine.specs.Refusals.{state_time_and_room}
 use Rattle.basis_engine.specs.Timing.{Timing, timing_of}
 
 -- Where no refusal is given, a row does not apply, and no later one gives one.
-pub passed : (n : ℕ) (test : Bool) (others : Option ℕ) → n if test else others ≡ none → (test ≡ false) × (others ≡ none)
+pub passed : (n : ℕ) (test : Bool) (others : Option ℕ) → n if test else others ≡ None → (test ≡ false) × (others ≡ None)
 passed n true others e = absurd (none≢some (sym e))
 passed n false others e = (refl, e)
 
@@ -40,8 +38,8 @@ pub record Admitted (s : Interface) (time : Time) : Type 0 where
   pub in_range : time.0 ≤ last_time
   pub not_before : s.latest.0 ≤ time.0
 
-pub admitted : (s : Interface) (time : Time) (others : Option ℕ) → state_and_time s time others ≡ none →
-    Admitted s time × (others ≡ none)
+pub admitted : (s : Interface) (time : Time) (others : Option ℕ) → state_and_time s time others ≡ None →
+    Admitted s time × (others ≡ None)
 unfolding state_and_time
 admitted s time others e =
     let one = passed 1 (not (is_sound s)) (3 if ltb last_time time.0 else 4 if ltb time.0 s.latest.0 else others) e in
@@ -56,8 +54,8 @@ admitted s time others e =
     )
 
 -- The rows 1, 3, 4 and 5.
-pub roomy : (s : Interface) (time : Time) (room : ℕ) (others : Option ℕ) → state_time_and_room s time room others ≡ none →
-    Admitted s time × (frame_length ≤ room) × (others ≡ none)
+pub roomy : (s : Interface) (time : Time) (room : ℕ) (others : Option ℕ) → state_time_and_room s time room others ≡ None →
+    Admitted s time × (frame_length ≤ room) × (others ≡ None)
 roomy s time room others e =
     let w = admitted s time (5 if ltb room frame_length else others) e in
     let five = passed 5 (ltb room frame_length) others w.1 in
@@ -99,9 +97,9 @@ sound_once s e =
     && is_past s.latest s.asked && all (is_sound_record (timing_of s.setup) s.latest) s.records) (holds_none_twice s.records) e).1
 
 -- What is past stays past.
-pub past_later : (latest t : Time) (m : Moment) → latest.0 ≤ t.0 → is_past latest m ≡ true → is_past t m ≡ true
-past_later latest t Never h past = refl
-past_later latest t (At seen) h past = let le = leb-true seen.0 latest.0 past in le-leb seen.0 t.0 (omega arith)
+pub past_later : (latest t : Time) (m : Option Time) → latest.0 ≤ t.0 → is_past latest m ≡ true → is_past t m ≡ true
+past_later latest t None h past = refl
+past_later latest t (Some seen) h past = let le = leb-true seen.0 latest.0 past in le-leb seen.0 t.0 (omega arith)
 
 -- A held record of a sound state.
 pub record SoundRecord (row : Timing) (latest : Time) (r : Record) : Type 0 where
@@ -169,11 +167,11 @@ pub record AskAccepted (s : Interface) (time : Time) (address : Ipv4Address) (po
   pub room : is_none (lowest is_free s.records) ≡ false
   pub in_time : is_too_soon s time ≡ false
 
-pub ask_accepted : (s : Interface) (time : Time) (address : Ipv4Address) (policy draw : ℕ) → ask_refusal s time address policy draw ≡ none →
+pub ask_accepted : (s : Interface) (time : Time) (address : Ipv4Address) (policy draw : ℕ) → ask_refusal s time address policy draw ≡ None →
     AskAccepted s time address policy draw
 unfolding ask_refusal
 ask_accepted s time address policy draw e =
-    let twelve = 12 if is_too_soon s time else none in
+    let twelve = 12 if is_too_soon s time else None in
     let eleven = 11 if is_none (lowest is_free s.records) else twelve in
     let ten = 10 if is_held address s.records else eleven in
     let nine = 9 if not (is_policy policy) else ten in
@@ -182,7 +180,7 @@ ask_accepted s time address policy draw e =
     let b = passed 9 (not (is_policy policy)) ten a.1 in
     let c = passed 10 (is_held address s.records) eleven b.1 in
     let d = passed 11 (is_none (lowest is_free s.records)) twelve c.1 in
-    let f = passed 12 (is_too_soon s time) none d.1 in
+    let f = passed 12 (is_too_soon s time) None d.1 in
     record {
       admission = w.0;
       allowed = not-false (is_allowed address) a.0;
@@ -192,18 +190,18 @@ ask_accepted s time address policy draw e =
       in_time = f.0;
     }
 
-pub tick_accepted : (s : Interface) (time : Time) (draw room : ℕ) → tick_refusal s time draw room ≡ none → Admitted s time
+pub tick_accepted : (s : Interface) (time : Time) (draw room : ℕ) → tick_refusal s time draw room ≡ None → Admitted s time
 unfolding tick_refusal
-tick_accepted s time draw room e = (roomy s time room none e).0
+tick_accepted s time draw room e = (roomy s time room None e).0
 
-pub packet_accepted : (s : Interface) (time : Time) (bytes : List ℕ) (room : ℕ) → packet_refusal s time bytes room ≡ none → Admitted s time
+pub packet_accepted : (s : Interface) (time : Time) (bytes : List ℕ) (room : ℕ) → packet_refusal s time bytes room ≡ None → Admitted s time
 unfolding packet_refusal
 packet_accepted s time bytes room e = (roomy s time room (read_refusal bytes) e).0
 
-pub drop_accepted : (s : Interface) (time : Time) (slot : ℕ) → drop_refusal s time slot ≡ none →
+pub drop_accepted : (s : Interface) (time : Time) (slot : ℕ) → drop_refusal s time slot ≡ None →
     Admitted s time × (is_free (record_at s.records slot) ≡ false)
 unfolding drop_refusal
 drop_accepted s time slot e =
-    let w = admitted s time (13 if ltb 3 slot || is_free (record_at s.records slot) else none) e in
-    let r = passed 13 (ltb 3 slot || is_free (record_at s.records slot)) none w.1 in
+    let w = admitted s time (13 if ltb 3 slot || is_free (record_at s.records slot) else None) e in
+    let r = passed 13 (ltb 3 slot || is_free (record_at s.records slot)) None w.1 in
     (w.0, (neither (ltb 3 slot) (is_free (record_at s.records slot)) r.0).1)

@@ -4,26 +4,23 @@ use Prim.Native.Nat.{ℕ, zero, suc, ◌+◌, ◌≤◌, ◌<◌}
 use mathlib.Core.Path.{◌≡◌, refl, sym, ◌∙◌, subst}
 use mathlib.Core.Bool.{Bool, true, false, not, cond, ◌||◌, true≢false, false≢true}
 use mathlib.Core.List.{List, [], ◌∷◌}
-use mathlib.Core.Option.{Option, none, some}
+use Rattle.std.specs.Prelude.{Option, None, Some}
 use native.Mathlib.Omega.{arith}
 use lib.Dec.{leb, ltb, eqb}
 use lib.ListN.{length, set}
 use lib.Seq.{set_out}
 use borrow.Author.Tests.{leb-true, le-leb, ltb-true, ltb-false, eq-eqb, eqb-false, not-false}
 use Rattle.basis.specs.Times.{last_time}
-use Rattle.basis.specs.Answers.{leaves, answer_report}
+use Rattle.basis.specs.Answers.{Answer, leaves, answer_report}
 use Rattle.basis.specs.Frame.{frame_of}
 use Rattle.basis.specs.declared.Frame.{Frame}
 use Rattle.basis.specs.declared.Ipv4Address.{Ipv4Address}
 use Rattle.basis.specs.declared.Setup.{Setup}
 use Rattle.basis.specs.declared.Time.{Time}
-use Rattle.basis.specs.declared.Moment.{Moment}
-use Rattle.basis.specs.declared.Moment.TheVariants.{At}
 use Rattle.basis.specs.declared.Stage.{Stage}
 use Rattle.basis.specs.declared.Stage.TheVariants.{Free, Probing, Announced, Settled}
 use Rattle.basis.specs.declared.Record.{Record}
 use Rattle.basis.specs.declared.Interface.{Interface}
-use Rattle.basis.specs.declared.Answer.{Answer}
 use Rattle.basis.specs.declared.Resolution.{Resolution}
 use Rattle.basis.specs.declared.Resolution.TheVariants.{Lose, Defend, Keep}
 use Rattle.basis.specs.declared.Call.{Call}
@@ -177,7 +174,7 @@ module _ (s : Interface) (t : Time) (admission : Admitted s t) where
   record_sound slot = all_holds (is_sound_record (timing_of s.setup) t) s.records slot (free_sound (timing_of s.setup) t) records_later
 
   -- The state after an accepted call, with these records.
-  steady_with : (asked : Moment) (count : ℕ) (records : List Record) → count ≤ (timing_of s.setup).max_conflicts → is_past t asked ≡ true → all (is_sound_record (timing_of s.setup) t) records ≡ true →
+  steady_with : (asked : Option Time) (count : ℕ) (records : List Record) → count ≤ (timing_of s.setup).max_conflicts → is_past t asked ≡ true → all (is_sound_record (timing_of s.setup) t) records ≡ true →
       Sound (changed s t asked count records)
   steady_with asked count records few past each =
       record { chosen = (sound s admission.sound).chosen; in_range = admission.in_range; counted = few; asked_past = past; each_sound = each }
@@ -197,8 +194,8 @@ module _ (s : Interface) (t : Time) (admission : Admitted s t) where
   steady_same = steady_with s.asked s.conflicts s.records few_conflicts asked_past_lem records_later
 
   tick_steady : (draw : ℕ) (o : Option ℕ) → Sound (serve s t draw o).state
-  tick_steady draw none = steady_same
-  tick_steady draw (some slot) =
+  tick_steady draw None = steady_same
+  tick_steady draw (Some slot) =
       let r = record_at s.records slot in
       steady_set s.conflicts slot (with_stage r (stage_after (timing_of s.setup) t draw r.stage)) few_conflicts
       (restaged_sound (timing_of s.setup) t r (stage_after (timing_of s.setup) t draw r.stage) (record_sound slot) (sent_sound (timing_of s.setup) (timing_fits s.setup) t draw r.stage) (sent_free (timing_of s.setup) t draw r.stage))
@@ -209,39 +206,39 @@ module _ (s : Interface) (t : Time) (admission : Admitted s t) where
   after_sound Keep r e = restaged_sound (timing_of s.setup) t r (seen_at t r.stage) e (seen_sound (timing_of s.setup) t r.stage) (λ free. seen_free t r.stage ∙ free)
 
   packet_steady : (f : Frame) (o : Option ℕ) → Sound (meet s t f o).state
-  packet_steady f none = steady_same
-  packet_steady f (some slot) =
+  packet_steady f None = steady_same
+  packet_steady f (Some slot) =
       let r = record_at s.records slot in
       steady_set (count_up (timing_of s.setup) s.conflicts) slot (record_after (resolution (timing_of s.setup) t r) t r) (counted_up (timing_of s.setup) s.conflicts few_conflicts) (after_sound (resolution (timing_of s.setup) t r) r (record_sound slot))
 
   ask_steady : (address : Ipv4Address) (policy draw : ℕ) (o : Option ℕ) → is_allowed address ≡ true → is_policy policy ≡ true →
       all (is_sound_record (timing_of s.setup) t) (put_at s.records o (new_claim (timing_of s.setup) t address policy draw)) ≡ true
   unfolding is_sound_stage
-  ask_steady address policy draw none allowed known = records_later
-  ask_steady address policy draw (some slot) allowed known =
+  ask_steady address policy draw None allowed known = records_later
+  ask_steady address policy draw (Some slot) allowed known =
       all_set (is_sound_record (timing_of s.setup) t) s.records slot (new_claim (timing_of s.setup) t address policy draw)
       (taken_record (timing_of s.setup) t (new_claim (timing_of s.setup) t address policy draw)
       (rw (le-leb 0 (timing_of s.setup).probe_num (omega arith)) (due_near t (wait (timing_of s.setup) draw) ((timing_fits s.setup).wait_near draw))) allowed known)
       records_later
 
-fresh_steady : (setup : Setup) → fresh_refusal setup ≡ none → Sound (new_interface setup)
+fresh_steady : (setup : Setup) → fresh_refusal setup ≡ None → Sound (new_interface setup)
 unfolding fresh_refusal all is_sound_record
 fresh_steady setup e =
     record {
-      chosen = not-false (is_sound_setup setup) (passed 2 (not (is_sound_setup setup)) none e).0;
+      chosen = not-false (is_sound_setup setup) (passed 2 (not (is_sound_setup setup)) None e).0;
       in_range = omega arith;
       counted = omega arith;
       asked_past = refl;
       each_sound = refl;
     }
 
-call_steady : (s : Interface) (call : Call) (bytes : List ℕ) (room : ℕ) → refusal_of s call bytes room ≡ none → Sound (outcome_of s call bytes).state
+call_steady : (s : Interface) (call : Call) (bytes : List ℕ) (room : ℕ) → refusal_of s call bytes room ≡ None → Sound (outcome_of s call bytes).state
 unfolding refusal_of outcome_of fresh_outcome ask_outcome tick_outcome packet_outcome drop_outcome
 call_steady s (Call.Fresh setup) bytes room e = fresh_steady setup e
 call_steady s (Call.Ask t address policy draw) bytes room e =
     let w = ask_accepted s t address policy draw e in
     let o = lowest is_free s.records in
-    steady_with s t w.admission (At t) s.conflicts
+    steady_with s t w.admission (Some t) s.conflicts
     (put_at s.records o (new_claim (timing_of s.setup) t address policy draw)) (few_conflicts s t w.admission)
     (le-leb t.0 t.0 (omega arith)) (ask_steady s t w.admission address policy draw o w.allowed w.known)
 call_steady s (Call.Tick t draw) bytes room e = tick_steady s t (tick_accepted s t draw room e) draw (due_slot t s.records)
@@ -291,14 +288,14 @@ module _ (records : List Record) (once : holds_none_twice records ≡ true) (slo
 -- An accepted call leaves no address in two slots.
 module _ (s : Interface) (once : holds_none_twice s.records ≡ true) (t : Time) where
   tick_once : (draw : ℕ) (o : Option ℕ) → holds_none_twice (serve s t draw o).state.records ≡ true
-  tick_once draw none = once
-  tick_once draw (some slot) =
+  tick_once draw None = once
+  tick_once draw (Some slot) =
       let stage = (record_at s.records slot).stage in
       restaged_once s.records once slot (stage_after (timing_of s.setup) t draw stage) (sent_free (timing_of s.setup) t draw stage)
 
   packet_once : (f : Frame) (o : Option ℕ) → holds_none_twice (meet s t f o).state.records ≡ true
-  packet_once f none = once
-  packet_once f (some slot) = by (resolution (timing_of s.setup) t r)
+  packet_once f None = once
+  packet_once f (Some slot) = by (resolution (timing_of s.setup) t r)
     where
       r : Record
       r = record_at s.records slot
@@ -310,15 +307,15 @@ module _ (s : Interface) (once : holds_none_twice s.records ≡ true) (t : Time)
 
   ask_once : (address : Ipv4Address) (policy draw : ℕ) (o : Option ℕ) → is_held address s.records ≡ false →
       holds_none_twice (put_at s.records o (new_claim (timing_of s.setup) t address policy draw)) ≡ true
-  ask_once address policy draw none free = once
-  ask_once address policy draw (some slot) free =
+  ask_once address policy draw None free = once
+  ask_once address policy draw (Some slot) free =
       set_once s.records once slot (new_claim (timing_of s.setup) t address policy draw)
       (λ other_address e other h.
       absurd (false≢true (sym (any_fails (holds address) s.records other refl free)
       ∙ subst (λ (a : Ipv4Address). holds a (record_at s.records other) ≡ true)
       (same_address_lem other_address address (sym (held_address other_address (new_claim (timing_of s.setup) t address policy draw) e).1)) h)))
 
-call_once : (s : Interface) (call : Call) (bytes : List ℕ) (room : ℕ) → refusal_of s call bytes room ≡ none →
+call_once : (s : Interface) (call : Call) (bytes : List ℕ) (room : ℕ) → refusal_of s call bytes room ≡ None →
     holds_none_twice (outcome_of s call bytes).state.records ≡ true
 unfolding refusal_of outcome_of fresh_outcome ask_outcome tick_outcome packet_outcome drop_outcome holds_none_twice
 call_once s (Call.Fresh setup) bytes room e = refl
@@ -333,7 +330,7 @@ call_once s (Call.Packet t) bytes room e =
 call_once s (Call.Drop t slot) bytes room e = freed_once s.records (sound_once s (drop_accepted s t slot e).0.sound) slot
 
 -- Every accepted call leaves a sound state; and any call on a sound state does.
-accepted_sound : (s : Interface) (call : Call) (bytes : List ℕ) (room : ℕ) → refusal_of s call bytes room ≡ none →
+accepted_sound : (s : Interface) (call : Call) (bytes : List ℕ) (room : ℕ) → refusal_of s call bytes room ≡ None →
     is_sound (outcome_of s call bytes).state ≡ true
 accepted_sound s call bytes room e = whole (outcome_of s call bytes).state (call_steady s call bytes room e) (call_once s call bytes room e)
 
@@ -342,8 +339,8 @@ unfolding result_of
 stays_sound s call bytes lent sound_before = go (refusal_of s call bytes (length lent)) refl
   where
     go : (refusal : Option ℕ) → refusal_of s call bytes (length lent) ≡ refusal → is_sound (leaves refusal s (outcome_of s call bytes).state) ≡ true
-    go none e = accepted_sound s call bytes (length lent) e
-    go (some n) e = sound_before
+    go None e = accepted_sound s call bytes (length lent) e
+    go (Some n) e = sound_before
 
 history_sound : (start : Interface) → is_sound start ≡ true → (exchanges : List Exchange) → History start exchanges → is_sound (state_after start exchanges) ≡ true
 unfolding History

@@ -3,7 +3,7 @@ use Prim.Native.Nat.{ℕ, ◌+◌, ◌<◌, ◌≤◌, min}
 use mathlib.Core.Path.{◌≡◌, refl, sym}
 use mathlib.Core.Bool.{Bool, true, false, cond, ◌&&◌, true≢false}
 use mathlib.Core.List.{List, [], ◌∷◌}
-use mathlib.Core.Option.{Option, none, some}
+use Rattle.std.specs.Prelude.{Option, None, Some}
 use mathlib.Core.Logic.{inr}
 use native.Mathlib.Nat.{zero-add}
 use native.Mathlib.Omega.{arith}
@@ -13,8 +13,6 @@ use borrow.Author.Tests.{leb-true, leb-false, ltb-false, eq-eqb, ne_eqb}
 use Rattle.basis.specs.declared.Ipv4Address.{Ipv4Address}
 use Rattle.basis.specs.declared.Setup.{Setup}
 use Rattle.basis.specs.declared.Time.{Time}
-use Rattle.basis.specs.declared.Moment.{Moment}
-use Rattle.basis.specs.declared.Moment.TheVariants.{Never, At}
 use Rattle.basis.specs.declared.Record.{Record}
 use Rattle.basis.specs.declared.Interface.{Interface}
 use Rattle.basis.specs.declared.Call.TheVariants as Call
@@ -33,11 +31,11 @@ use Rattle.basis_engine.proofs.Links.{Link, link_elsewhere, link_taken}
 use Rattle.basis_engine.proofs.Invariant.{LastAsk, Linked, LinkedAfter, by_address, holds_own, holds_no_other, linked_away}
 
 -- The asks after the tenth conflict stay apart: with a count of 10 an ask that is too soon is refused.
-ask_after : (row : Timing) (asks : List ℕ) (count : ℕ) (asked : Moment) (time : Time) → LastAsk row asks count asked →
+ask_after : (row : Timing) (asks : List ℕ) (count : ℕ) (asked : Option Time) (time : Time) → LastAsk row asks count asked →
     is_within row.rate_limit_interval time asked ≡ false → IsAfter row.rate_limit_interval asks time.0
 ask_after row [] count asked time last in_time = tt
-ask_after row (t ∷ earlier) count Never time last in_time = absurd last
-ask_after row (t ∷ earlier) count (At asked) time last in_time =
+ask_after row (t ∷ earlier) count None time last in_time = absurd last
+ask_after row (t ∷ earlier) count (Some asked) time last in_time =
     let same = last.1 in
     let h = ltb-false time.0 (asked.0 + row.rate_limit_interval) in_time in omega arith
 
@@ -47,12 +45,12 @@ limited row count conflicts near told ten e = rw (eq-eqb conflicts row.max_confl
 
 module _ (setup : Setup) (s : Interface) (claims : List Claim) (asks : List ℕ) (linked : Linked setup s claims asks)
     (time : Time) (address : Ipv4Address) (policy draw slot : ℕ) (bytes lent : List ℕ) (accepted : AskAccepted s time address policy draw)
-    (lowest_free : lowest is_free s.records ≡ some slot) where
+    (lowest_free : lowest is_free s.records ≡ Some slot) where
   new : Record
   new = new_claim (timing_of setup) time address policy draw
 
   claim : Claim
-  claim = record { address = address; policy = policy; slot = some slot; marks = [] }
+  claim = record { address = address; policy = policy; slot = Some slot; marks = [] }
 
   free : is_free (record_at s.records slot) ≡ true
   free = (lowest_holds is_free s.records slot lowest_free).0
@@ -77,15 +75,15 @@ module _ (setup : Setup) (s : Interface) (claims : List Claim) (asks : List ℕ)
       (rw free) (holds_no_other other new apart) (linked.links other)))
 
   -- With fewer than ten conflicts there was no ask after the tenth.
-  none_yet : (asks : List ℕ) (count : ℕ) (asked : Moment) → LastAsk (timing_of setup) asks count asked → count < (timing_of setup).max_conflicts →
-      LastAsk (timing_of setup) asks count (At time)
+  none_yet : (asks : List ℕ) (count : ℕ) (asked : Option Time) → LastAsk (timing_of setup) asks count asked → count < (timing_of setup).max_conflicts →
+      LastAsk (timing_of setup) asks count (Some time)
   none_yet [] count asked last few = tt
-  none_yet (t ∷ earlier) count Never last few = absurd last
-  none_yet (t ∷ earlier) count (At asked) last few = let ten = last.0 in (omega arith, omega arith)
+  none_yet (t ∷ earlier) count None last few = absurd last
+  none_yet (t ∷ earlier) count (Some asked) last few = let ten = last.0 in (omega arith, omega arith)
 
   ask_asks : (b : Bool) → leb (timing_of setup).max_conflicts (conflict_count claims) ≡ b →
       Spaced (timing_of setup).rate_limit_interval (cond b (time.0 ∷ asks) asks)
-      × LastAsk (timing_of setup) (cond b (time.0 ∷ asks) asks) (conflict_count claims) (At time)
+      × LastAsk (timing_of setup) (cond b (time.0 ∷ asks) asks) (conflict_count claims) (Some time)
   ask_asks true e =
       let ten = leb-true (timing_of setup).max_conflicts (conflict_count claims) e in
       let near = limited (timing_of setup) (conflict_count claims) s.conflicts (is_within (timing_of setup).rate_limit_interval time s.asked) linked.count
@@ -112,7 +110,7 @@ module _ (setup : Setup) (s : Interface) (claims : List Claim) (asks : List ℕ)
       })
 
 pub ask_linked : (setup : Setup) (s : Interface) (claims : List Claim) (asks : List ℕ) → Linked setup s claims asks →
-    (time : Time) (address : Ipv4Address) (policy draw : ℕ) (bytes lent : List ℕ) → ask_refusal s time address policy draw ≡ none →
+    (time : Time) (address : Ipv4Address) (policy draw : ℕ) (bytes lent : List ℕ) → ask_refusal s time address policy draw ≡ None →
     LinkedAfter setup claims asks (Call.Ask time address policy draw) bytes lent (ask_outcome s time address policy draw)
 ask_linked setup s claims asks linked time address policy draw bytes lent e = go (lowest is_free s.records) refl
   where
@@ -121,5 +119,5 @@ ask_linked setup s claims asks linked time address policy draw bytes lent e = go
 
     go : (o : Option ℕ) → lowest is_free s.records ≡ o →
         LinkedAfter setup claims asks (Call.Ask time address policy draw) bytes lent (ask_outcome s time address policy draw)
-    go none full = absurd (true≢false (rw full at facts.room))
-    go (some slot) lowest_free = ask_done setup s claims asks linked time address policy draw slot bytes lent facts lowest_free
+    go None full = absurd (true≢false (rw full at facts.room))
+    go (Some slot) lowest_free = ask_done setup s claims asks linked time address policy draw slot bytes lent facts lowest_free

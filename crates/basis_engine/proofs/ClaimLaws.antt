@@ -2,7 +2,7 @@
 use mathlib.Core.Path.{◌≡◌, refl, sym, ◌∙◌}
 use mathlib.Core.Bool.{Bool, true, false, cond, false≢true}
 use mathlib.Core.List.{List, [], ◌∷◌, map}
-use mathlib.Core.Option.{Option, none, some}
+use Rattle.std.specs.Prelude.{Option, None, Some}
 use borrow.Author.Tests.{eq-eqb, eqb-true}
 use Rattle.basis.specs.declared.Ipv4Address.{Ipv4Address}
 use Rattle.basis_engine.specs.Claims.{Mark, Claim, marked, is_on, marked_latest, latest_on}
@@ -14,8 +14,8 @@ on address [] = []
 on address (c ∷ earlier) = cond (is_on address c) (c ∷ on address earlier) (on address earlier)
 
 abbrev pub first : List Claim → Option Claim
-first [] = none
-first (c ∷ earlier) = some c
+first [] = None
+first (c ∷ earlier) = Some c
 
 abbrev pub marked_first : Mark → List Claim → List Claim
 marked_first mark [] = []
@@ -28,7 +28,7 @@ module _ (address : Ipv4Address) where
   latest_first (c ∷ earlier) = go (is_on address c) (latest_first earlier)
     where
       go : (b : Bool) → latest_on address earlier ≡ first (on address earlier) →
-          cond b (some c) (latest_on address earlier) ≡ first (cond b (c ∷ on address earlier) (on address earlier))
+          cond b (Some c) (latest_on address earlier) ≡ first (cond b (c ∷ on address earlier) (on address earlier))
       go true later = refl
       go false later = later
 

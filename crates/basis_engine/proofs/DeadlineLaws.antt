@@ -3,7 +3,7 @@ use Prim.Native.Nat.{ℕ, zero, suc, ◌<◌, ◌≤◌, min}
 use mathlib.Core.Path.{◌≡◌, refl, sym, ap, ◌∙◌}
 use mathlib.Core.Bool.{Bool, true, false, cond, true≢false, false≢true}
 use mathlib.Core.List.{List, [], ◌∷◌}
-use mathlib.Core.Option.{Option, none, some}
+use Rattle.std.specs.Prelude.{Option, None, Some}
 use mathlib.Core.Logic.{◌⊎◌, inl, inr}
 use native.Mathlib.Nat.{lt_of_not-le, le_of_suc-le-suc}
 use native.Mathlib.Omega.{arith}
@@ -21,25 +21,25 @@ abbrev pub deadline_at : List Record → ℕ → Option ℕ
 deadline_at records slot = deadline_of (record_at records slot).stage
 
 -- The smallest deadline is not above any.
-some_inj : {a b : ℕ} → some a ≡ some b → a ≡ b
+some_inj : {a b : ℕ} → Some a ≡ Some b → a ≡ b
 some_inj {a} {b} e = cc
 
 AtMost : Option ℕ → ℕ → Type 0
-AtMost o d = (m : ℕ) × (o ≡ some m) × (m ≤ d)
+AtMost o d = (m : ℕ) × (o ≡ Some m) × (m ≤ d)
 
-smaller_left : (o rest : Option ℕ) (d : ℕ) → o ≡ some d → AtMost (smaller o rest) d
+smaller_left : (o rest : Option ℕ) (d : ℕ) → o ≡ Some d → AtMost (smaller o rest) d
 unfolding AtMost
-smaller_left none rest d e = absurd (none≢some e)
-smaller_left (some c) none d e = let same = some_inj e in (c, refl, omega arith)
-smaller_left (some c) (some r) d e = let same = some_inj e in (min c r, refl, omega arith)
+smaller_left None rest d e = absurd (none≢some e)
+smaller_left (Some c) None d e = let same = some_inj e in (c, refl, omega arith)
+smaller_left (Some c) (Some r) d e = let same = some_inj e in (min c r, refl, omega arith)
 
 smaller_right : (o rest : Option ℕ) (d : ℕ) → AtMost rest d → AtMost (smaller o rest) d
 unfolding AtMost
-smaller_right none rest d w = w
-smaller_right (some c) none d w = absurd (none≢some w.1)
-smaller_right (some c) (some r) d w = let same = some_inj w.1 in let le = w.2 in (min c r, refl, omega arith)
+smaller_right None rest d w = w
+smaller_right (Some c) None d w = absurd (none≢some w.1)
+smaller_right (Some c) (Some r) d w = let same = some_inj w.1 in let le = w.2 in (min c r, refl, omega arith)
 
-smallest_below : (records : List Record) (slot d : ℕ) → deadline_at records slot ≡ some d → AtMost (smallest_deadline records) d
+smallest_below : (records : List Record) (slot d : ℕ) → deadline_at records slot ≡ Some d → AtMost (smallest_deadline records) d
 unfolding smallest_deadline
 smallest_below [] slot d e = absurd (none≢some e)
 smallest_below (r ∷ records) zero d e = smaller_left (deadline_of r.stage) (smallest_deadline records) d e
@@ -47,50 +47,50 @@ smallest_below (r ∷ records) (suc slot) d e =
     smaller_right (deadline_of r.stage) (smallest_deadline records) d (smallest_below records slot d e)
 
 -- Some slot has the smallest deadline.
-has_smaller : (o rest : Option ℕ) (m : ℕ) → smaller o rest ≡ some m → (is_just m o ≡ true) ⊎ (rest ≡ some m)
-has_smaller none rest m e = inr e
-has_smaller (some c) none m e = inl (eq-eqb c m (some_inj e))
-has_smaller (some c) (some r) m e = go (leb c r) refl
+has_smaller : (o rest : Option ℕ) (m : ℕ) → smaller o rest ≡ Some m → (is_just m o ≡ true) ⊎ (rest ≡ Some m)
+has_smaller None rest m e = inr e
+has_smaller (Some c) None m e = inl (eq-eqb c m (some_inj e))
+has_smaller (Some c) (Some r) m e = go (leb c r) refl
   where
-    go : (b : Bool) → leb c r ≡ b → (is_just m (some c) ≡ true) ⊎ (some r ≡ some m)
+    go : (b : Bool) → leb c r ≡ b → (is_just m (Some c) ≡ true) ⊎ (Some r ≡ Some m)
     go true le = let same = some_inj e in let h = leb-true c r le in inl (eq-eqb c m (omega arith))
-    go false le = let same = some_inj e in let h = leb-false c r le in inr (ap some (omega arith))
+    go false le = let same = some_inj e in let h = leb-false c r le in inr (ap Some (omega arith))
 
-smallest_somewhere : (n : ℕ) (records : List Record) (m : ℕ) → smallest_deadline records ≡ some m →
-    lowest_from n (has_deadline m) records ≡ none → ⊥
+smallest_somewhere : (n : ℕ) (records : List Record) (m : ℕ) → smallest_deadline records ≡ Some m →
+    lowest_from n (has_deadline m) records ≡ None → ⊥
 unfolding smallest_deadline lowest_from
 smallest_somewhere n [] m e nowhere = none≢some e
 smallest_somewhere n (r ∷ records) m e nowhere =
     go (smallest_somewhere (suc n) records m) (has_deadline m r) refl nowhere
     (has_smaller (deadline_of r.stage) (smallest_deadline records) m e)
   where
-    go : (smallest_deadline records ≡ some m → lowest_from (suc n) (has_deadline m) records ≡ none → ⊥) →
-        (b : Bool) → has_deadline m r ≡ b → cond b (some n) (lowest_from (suc n) (has_deadline m) records) ≡ none →
-        (has_deadline m r ≡ true) ⊎ (smallest_deadline records ≡ some m) → ⊥
+    go : (smallest_deadline records ≡ Some m → lowest_from (suc n) (has_deadline m) records ≡ None → ⊥) →
+        (b : Bool) → has_deadline m r ≡ b → cond b (Some n) (lowest_from (suc n) (has_deadline m) records) ≡ None →
+        (has_deadline m r ≡ true) ⊎ (smallest_deadline records ≡ Some m) → ⊥
     go later true h nowhere w = none≢some (sym nowhere)
     go later false h nowhere (inl here) = false≢true (sym h ∙ here)
     go later false h nowhere (inr rest) = later rest nowhere
 
 -- The deadline that a test found.
-deadline_is : (o : Option ℕ) (d : ℕ) → is_just d o ≡ true → o ≡ some d
-deadline_is none d e = absurd (false≢true e)
-deadline_is (some c) d e = ap some (eqb-true c d e)
+deadline_is : (o : Option ℕ) (d : ℕ) → is_just d o ≡ true → o ≡ Some d
+deadline_is None d e = absurd (false≢true e)
+deadline_is (Some c) d e = ap Some (eqb-true c d e)
 
-is_deadline : (o : Option ℕ) (d : ℕ) → o ≡ some d → is_just d o ≡ true
-is_deadline none d e = absurd (none≢some e)
-is_deadline (some c) d e = eq-eqb c d (some_inj e)
+is_deadline : (o : Option ℕ) (d : ℕ) → o ≡ Some d → is_just d o ≡ true
+is_deadline None d e = absurd (none≢some e)
+is_deadline (Some c) d e = eq-eqb c d (some_inj e)
 
 -- A due slot: its deadline is not later than the time, no other is earlier, and none as early is in a lower slot.
 pub record Due (time : Time) (records : List Record) (slot : ℕ) : Type 0 where
   pub deadline : ℕ
-  pub has : deadline_at records slot ≡ some deadline
+  pub has : deadline_at records slot ≡ Some deadline
   pub late : deadline ≤ time.0
-  pub earliest : (other d : ℕ) → deadline_at records other ≡ some d → deadline ≤ d
-  pub lowest_on_tie : (other : ℕ) → deadline_at records other ≡ some deadline → slot ≤ other
+  pub earliest : (other d : ℕ) → deadline_at records other ≡ Some d → deadline ≤ d
+  pub lowest_on_tie : (other : ℕ) → deadline_at records other ≡ Some deadline → slot ≤ other
   pub room : slot < length records
 
 module _ (time : Time) (records : List Record) where
-  due_at_lem : (slot m : ℕ) → smallest_deadline records ≡ some m → m ≤ time.0 → lowest (has_deadline m) records ≡ some slot → Due time records slot
+  due_at_lem : (slot m : ℕ) → smallest_deadline records ≡ Some m → m ≤ time.0 → lowest (has_deadline m) records ≡ Some slot → Due time records slot
   unfolding AtMost
   due_at_lem slot m smallest late e =
       let w = lowest_holds (has_deadline m) records slot e in
@@ -109,25 +109,25 @@ module _ (time : Time) (records : List Record) where
       }
 
   -- "Serve the earliest, the lowest slot on a tie."
-  pub due_slot_lem : (slot : ℕ) → due_slot time records ≡ some slot → Due time records slot
+  pub due_slot_lem : (slot : ℕ) → due_slot time records ≡ Some slot → Due time records slot
   unfolding due_slot
   due_slot_lem slot e = go (smallest_deadline records) refl e
     where
-      go : (o : Option ℕ) → smallest_deadline records ≡ o → due_at time records o ≡ some slot → Due time records slot
-      go none smallest e = absurd (none≢some e)
-      go (some m) smallest e = at (leb m time.0) refl e
+      go : (o : Option ℕ) → smallest_deadline records ≡ o → due_at time records o ≡ Some slot → Due time records slot
+      go None smallest e = absurd (none≢some e)
+      go (Some m) smallest e = at (leb m time.0) refl e
         where
-          at : (b : Bool) → leb m time.0 ≡ b → cond b (lowest (has_deadline m) records) none ≡ some slot → Due time records slot
+          at : (b : Bool) → leb m time.0 ≡ b → cond b (lowest (has_deadline m) records) None ≡ Some slot → Due time records slot
           at true late e = due_at_lem slot m smallest (leb-true m time.0 late) e
           at false late e = absurd (none≢some e)
 
   -- "With nothing due": every deadline is later.
-  pub none_due : due_slot time records ≡ none → (slot d : ℕ) → deadline_at records slot ≡ some d → time.0 < d
+  pub none_due : due_slot time records ≡ None → (slot d : ℕ) → deadline_at records slot ≡ Some d → time.0 < d
   unfolding due_slot AtMost
   none_due e slot d has = go (smallest_below records slot d has) (leb (smallest_below records slot d has).0 time.0) refl
     where
       go : (w : AtMost (smallest_deadline records) d) (b : Bool) → leb w.0 time.0 ≡ b → time.0 < d
       go w true early =
           absurd (smallest_somewhere 0 records w.0 w.1
-          (ap (λ (c : Bool). cond c (lowest (has_deadline w.0) records) none) (sym early) ∙ ap (due_at time records) (sym w.1) ∙ e))
+          (ap (λ (c : Bool). cond c (lowest (has_deadline w.0) records) None) (sym early) ∙ ap (due_at time records) (sym w.1) ∙ e))
       go w false late = let h = leb-false w.0 time.0 late in let le = w.2 in omega arith

@@ -3,20 +3,18 @@ use Prim.Native.Nat.{ℕ}
 use mathlib.Core.Path.{◌≡◌, refl, sym, ap, ◌∙◌}
 use mathlib.Core.Bool.{Bool, true, false, cond, ◌&&◌, true≢false, false≢true}
 use mathlib.Core.List.{List, [], ◌∷◌, ◌++◌, map}
-use mathlib.Core.Option.{Option, none, some}
+use Rattle.std.specs.Prelude.{Option, None, Some}
 use mathlib.Core.Logic.{inl, inr, ◌↔◌}
 use lib.Dec.{eqb}
 use lib.ListN.{length}
-use Rattle.basis.specs.Answers.{Report, refused, accepted, Accepted, answer_report}
+use Rattle.basis.specs.Answers.{Answer, Report, refused, accepted, Accepted, answer_report}
 use Rattle.basis.specs.declared.Ipv4Address.{Ipv4Address}
 use Rattle.basis.specs.declared.Setup.{Setup}
 use Rattle.basis.specs.declared.Time.{Time}
-use Rattle.basis.specs.declared.Moment.{Moment}
 use Rattle.basis.specs.declared.Stage.{Stage}
 use Rattle.basis.specs.declared.Stage.TheVariants.{Free, Probing, Announced, Settled}
 use Rattle.basis.specs.declared.Record.{Record}
 use Rattle.basis.specs.declared.Interface.{Interface}
-use Rattle.basis.specs.declared.Answer.{Answer}
 use Rattle.basis.specs.declared.Call.{Call}
 use Rattle.basis.proofs.BytesLaws.{and_both}
 use Rattle.basis_engine.specs.Timing.{Timing, timing_of}
@@ -60,7 +58,7 @@ as_the_machine_lem start (exchange ∷ earlier) h =
 
 -- Every accepted call but fresh keeps the link.
 call_linked : (setup : Setup) (s : Interface) (claims : List Claim) (asks : List ℕ) → Linked setup s claims asks →
-    (call : Call) (bytes lent : List ℕ) → is_fresh call ≡ false → refusal_of s call bytes (length lent) ≡ none →
+    (call : Call) (bytes lent : List ℕ) → is_fresh call ≡ false → refusal_of s call bytes (length lent) ≡ None →
     LinkedAfter setup claims asks call bytes lent (outcome_of s call bytes)
 unfolding refusal_of outcome_of
 call_linked setup s claims asks linked (Call.Fresh other) bytes lent old e = absurd (true≢false old)
@@ -84,8 +82,8 @@ module _ (setup : Setup) (before : Interface) (claims : List Claim) (asks : List
       (is_fresh call && is_accepted report) ≡ false →
       Linked setup state (claims_by setup (record { call = call; bytes = bytes; report = report; out = out }) report claims)
       (asks_by (timing_of setup) call report claims asks)
-  exchange_by (some n) e report state out answered kept written old = rw (answered, kept) linked
-  exchange_by none e report state out answered kept written old =
+  exchange_by (Some n) e report state out answered kept written old = rw (answered, kept) linked
+  exchange_by None e report state out answered kept written old =
       rw (answered, kept, written)
       (call_linked setup before claims asks linked call bytes lent (not_fresh (is_fresh call) (rw answered at old)) e)
 
@@ -108,7 +106,7 @@ history_linked setup start begun (exchange ∷ earlier) h =
     (history_linked setup start begun earlier h.2) exchange.call exchange.bytes exchange.lent exchange.answer exchange.state exchange.out h.0 h.1
 
 -- (b): the latest claim on a usable address went through, and the address of a latest claim that went through is usable.
-in_use_through : (row : Timing) (policy : ℕ) (conflict : Moment) (sent : ℕ) (c : Claim) → c.policy ≡ policy → InUse row policy conflict sent c.marks →
+in_use_through : (row : Timing) (policy : ℕ) (conflict : Option Time) (sent : ℕ) (c : Claim) → c.policy ≡ policy → InUse row policy conflict sent c.marks →
     WentThrough row c
 in_use_through row policy conflict sent c same w =
     record {
@@ -204,8 +202,8 @@ refused_state before exchange promised denied = go (refusal_of before exchange.c
   where
     go : (refusal : Option ℕ) → answer_report exchange.answer ≡ (result_as refusal before exchange.lent (outcome_of before exchange.call exchange.bytes)).report →
         exchange.state ≡ (result_as refusal before exchange.lent (outcome_of before exchange.call exchange.bytes)).state → exchange.state ≡ before
-    go none answered kept = absurd (true≢false (rw answered at denied))
-    go (some n) answered kept = kept
+    go None answered kept = absurd (true≢false (rw answered at denied))
+    go (Some n) answered kept = kept
 
 refused_claims : (setup : Setup) (e : Event) (report : Report Accepted) (claims : List Claim) → is_accepted report ≡ false →
     claims_by setup e report claims ≡ claims
@@ -269,14 +267,14 @@ fresh_linked setup =
 
 pub fresh_accepted : (setup : Setup) (before start : Interface) (bytes lent out : List ℕ) (answer : Answer) →
     Promised before (Call.Fresh setup) bytes lent answer start out →
-    is_accepted (answer_report answer) ≡ true → (fresh_refusal setup ≡ none) × (start ≡ new_interface setup)
+    is_accepted (answer_report answer) ≡ true → (fresh_refusal setup ≡ None) × (start ≡ new_interface setup)
 unfolding result_of refusal_of outcome_of fresh_outcome
 fresh_accepted setup before start bytes lent out answer promised taken = go (fresh_refusal setup) refl promised.answered promised.handed_back
   where
     go : (refusal : Option ℕ) → fresh_refusal setup ≡ refusal → answer_report answer ≡ (result_as refusal before lent (fresh_outcome setup)).report →
-        start ≡ (result_as refusal before lent (fresh_outcome setup)).state → (fresh_refusal setup ≡ none) × (start ≡ new_interface setup)
-    go none e answered kept = (e, kept)
-    go (some n) e answered kept = absurd (false≢true (rw answered at taken))
+        start ≡ (result_as refusal before lent (fresh_outcome setup)).state → (fresh_refusal setup ≡ None) × (start ≡ new_interface setup)
+    go None e answered kept = (e, kept)
+    go (Some n) e answered kept = absurd (false≢true (rw answered at taken))
 
 -- The one claim.
 pub demand3 : Theorem

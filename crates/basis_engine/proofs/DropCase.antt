@@ -3,7 +3,7 @@ use Prim.Native.Nat.{ℕ, ◌<◌}
 use mathlib.Core.Path.{◌≡◌, refl, sym, ◌∙◌, subst}
 use mathlib.Core.Bool.{Bool, true, false, not, cond, ◌&&◌, false≢true}
 use mathlib.Core.List.{List, map}
-use mathlib.Core.Option.{none}
+use Rattle.std.specs.Prelude.{None}
 use mathlib.Core.Logic.{inl}
 use lib.ListN.{length, set}
 use borrow.Author.Tests.{eq-eqb, ne_eqb}
@@ -101,6 +101,6 @@ module _ (setup : Setup) (s : Interface) (claims : List Claim) (asks : List ℕ)
       }
 
 pub drop_linked : (setup : Setup) (s : Interface) (claims : List Claim) (asks : List ℕ) → Linked setup s claims asks →
-    (time : Time) (slot : ℕ) (bytes lent : List ℕ) → drop_refusal s time slot ≡ none →
+    (time : Time) (slot : ℕ) (bytes lent : List ℕ) → drop_refusal s time slot ≡ None →
     LinkedAfter setup claims asks (Call.Drop time slot) bytes lent (drop_outcome s time slot)
 drop_linked setup s claims asks linked time slot bytes lent e = drop_done setup s claims asks linked time slot bytes lent (drop_accepted s time slot e).1

@@ -1,23 +1,18 @@
 -- Every list of calls, up to the next accepted fresh, has a history: demand 3 is no claim about nothing.
 use Prim.Native.Nat.{ℕ}
-use mathlib.Core.Path.{◌≡◌, refl, ap, ap₂, ◌∙◌}
+use mathlib.Core.Path.{◌≡◌, refl, ap, ◌∙◌}
 use mathlib.Core.Bool.{Bool, true, false, not, ◌&&◌, ◌||◌}
 use mathlib.Core.List.{List, [], ◌∷◌, map}
-use mathlib.Core.Option.{Option, none, some}
+use Rattle.std.specs.Prelude.{Option, None, Some, Ok, Err}
 use lib.Dec.{ltb}
 use lib.ListN.{length}
 use Rattle.basis.specs.Times.{last_time}
-use Rattle.basis.specs.Answers.{◌if◌else◌, refusal_number, reported, refused, accepted, Accepted, slot_of, time_of, answer_report}
+use Rattle.basis.specs.Answers.{Answer, ◌if◌else◌, refusal_number, reported, refused, accepted, Accepted, time_of, answer_report}
 use Rattle.basis.specs.Frame.{is_known_frame, read_refusal, frame_length}
 use Rattle.basis.specs.declared.Refusal.{Refusal}
 use Rattle.basis.specs.declared.Refusal.TheVariants.{StateNotSound, HardwareNotAllowed, TimeAboveRange, TimeBelowLatest, BufferTooShort, PacketTooShort, FrameUnknown, AddressNotAllowed, PolicyUnknown, AddressHeld, NoSlotFree, AskedTooSoon, SlotNotHeld}
-use Rattle.basis.specs.declared.SlotNumber.{SlotNumber}
-use Rattle.basis.specs.declared.SlotNumber.TheVariants.{Absent, Slot}
-use Rattle.basis.specs.declared.Moment.{Moment}
-use Rattle.basis.specs.declared.Moment.TheVariants.{Never, At}
 use Rattle.basis.specs.declared.Time.{Time}
 use Rattle.basis.specs.declared.Interface.{Interface}
-use Rattle.basis.specs.declared.Answer.{Answer}
 use Rattle.basis.specs.declared.Call.{Call}
 use Rattle.basis_engine.specs.Slots.{record_at, lowest, is_none}
 use Rattle.basis_engine.specs.Interface.{is_allowed, is_policy, is_free, is_held, is_sound, is_sound_setup}
@@ -31,8 +26,8 @@ record Numbered (n : ℕ) : Type 0 where
   number : refusal_number refusal ≡ n
 
 abbrev IsNumbered : Option ℕ → Type 0
-IsNumbered none = Unit {0}
-IsNumbered (some n) = Numbered n
+IsNumbered None = Unit {0}
+IsNumbered (Some n) = Numbered n
 
 given : (refusal : Refusal) (test : Bool) (rest : Option ℕ) → IsNumbered rest → IsNumbered (refusal_number refusal if test else rest)
 given refusal true rest h = record { refusal = refusal; number = refl }
@@ -46,52 +41,43 @@ state_and_time_lem s time others h =
 
 refusal_numbered : (s : Interface) (call : Call) (bytes : List ℕ) (room : ℕ) → IsNumbered (refusal_of s call bytes room)
 unfolding refusal_of fresh_refusal ask_refusal tick_refusal packet_refusal drop_refusal read_refusal
-refusal_numbered s (Call.Fresh setup) bytes room = given HardwareNotAllowed (not (is_sound_setup setup)) none tt
+refusal_numbered s (Call.Fresh setup) bytes room = given HardwareNotAllowed (not (is_sound_setup setup)) None tt
 refusal_numbered s (Call.Ask time address policy draw) bytes room =
     state_and_time_lem s time _
     (given AddressNotAllowed (not (is_allowed address)) _
     (given PolicyUnknown (not (is_policy policy)) _
     (given AddressHeld (is_held address s.records) _
-    (given NoSlotFree (is_none (lowest is_free s.records)) _ (given AskedTooSoon (is_too_soon s time) none tt)))))
-refusal_numbered s (Call.Tick time draw) bytes room = state_and_time_lem s time _ (given BufferTooShort (ltb room frame_length) none tt)
+    (given NoSlotFree (is_none (lowest is_free s.records)) _ (given AskedTooSoon (is_too_soon s time) None tt)))))
+refusal_numbered s (Call.Tick time draw) bytes room = state_and_time_lem s time _ (given BufferTooShort (ltb room frame_length) None tt)
 refusal_numbered s (Call.Packet time) bytes room =
     state_and_time_lem s time _
     (given BufferTooShort (ltb room frame_length) _
-    (given PacketTooShort (ltb (length bytes) frame_length) _ (given FrameUnknown (not (is_known_frame bytes)) none tt)))
+    (given PacketTooShort (ltb (length bytes) frame_length) _ (given FrameUnknown (not (is_known_frame bytes)) None tt)))
 refusal_numbered s (Call.Drop time slot) bytes room =
-    state_and_time_lem s time _ (given SlotNotHeld (ltb 3 slot || is_free (record_at s.records slot)) none tt)
+    state_and_time_lem s time _ (given SlotNotHeld (ltb 3 slot || is_free (record_at s.records slot)) None tt)
 
 -- Each report is that of an answer.
 record Answered (refusal : Option ℕ) (a : Accepted) : Type 0 where
   answer : Answer
   reports : answer_report answer ≡ reported refusal a
 
-slot_for : Option ℕ → SlotNumber
-slot_for none = Absent
-slot_for (some n) = Slot n
-
-moment_for : Option ℕ → Moment
-moment_for none = Never
-moment_for (some n) = At (record { 0 = n })
-
-slot_for_lem : (o : Option ℕ) → slot_of (slot_for o) ≡ o
-unfolding slot_for
-slot_for_lem none = refl
-slot_for_lem (some n) = refl
+moment_for : Option ℕ → Option Time
+moment_for None = None
+moment_for (Some n) = Some (record { 0 = n })
 
 moment_for_lem : (o : Option ℕ) → time_of (moment_for o) ≡ o
 unfolding moment_for
-moment_for_lem none = refl
-moment_for_lem (some n) = refl
+moment_for_lem None = refl
+moment_for_lem (Some n) = refl
 
 answered : (refusal : Option ℕ) (a : Accepted) → IsNumbered refusal → Answered refusal a
 unfolding answer_report
-answered none a h =
+answered None a h =
     record {
-      answer = Answer.Accepted a.kind (slot_for a.slot) (moment_for a.next);
-      reports = ap₂ (λ slot next. accepted (record { kind = a.kind; slot = slot; next = next })) (slot_for_lem a.slot) (moment_for_lem a.next);
+      answer = Ok (record { kind = a.kind; slot = a.slot; next = moment_for a.next });
+      reports = ap (λ next. accepted (record { kind = a.kind; slot = a.slot; next = next })) (moment_for_lem a.next);
     }
-answered (some n) a h = record { answer = Answer.Refused h.refusal; reports = ap refused h.number }
+answered (Some n) a h = record { answer = Err h.refusal; reports = ap refused h.number }
 
 -- A call of a history, on any state: the machine's report, state and buffer.
 exchange_on : Interface → Invocation → Exchange
@@ -127,8 +113,8 @@ is_accepted_fresh (Call.Packet time) = false
 is_accepted_fresh (Call.Drop time slot) = false
 
 accepted_if_none : (refusal : Option ℕ) (a : Accepted) → is_accepted (reported refusal a) ≡ is_none refusal
-accepted_if_none none a = refl
-accepted_if_none (some n) a = refl
+accepted_if_none None a = refl
+accepted_if_none (Some n) a = refl
 
 fresh_or_not : (s : Interface) (call : Call) (bytes lent : List ℕ) →
     (is_fresh call && is_accepted (result_of s call bytes lent).report) ≡ is_accepted_fresh call

@@ -1,4 +1,5 @@
 -- What links the state to what was seen, after every history.
+use Rattle.std.specs.Prelude.{Option, Some, None}
 use Prim.Native.Nat.{ℕ, zero, suc, ◌+◌, ◌≤◌, min}
 use mathlib.Core.Path.{◌≡◌, refl, sym, ap, ◌∙◌, subst}
 use mathlib.Core.Bool.{Bool, true, false, not, cond, ◌&&◌, false≢true, ◌||◌}
@@ -12,8 +13,6 @@ use borrow.Author.Tests.{not-true, eqb-true, eqb-false, eq-eqb, ne_eqb}
 use Rattle.basis.specs.Answers.{accepted}
 use Rattle.basis.specs.declared.Ipv4Address.{Ipv4Address}
 use Rattle.basis.specs.declared.Time.{Time}
-use Rattle.basis.specs.declared.Moment.{Moment}
-use Rattle.basis.specs.declared.Moment.TheVariants.{Never, At}
 use Rattle.basis.specs.declared.Stage.{Stage}
 use Rattle.basis.specs.declared.Stage.TheVariants.{Free, Probing, Announced, Settled}
 use Rattle.basis.specs.declared.Record.{Record}
@@ -35,16 +34,16 @@ use Rattle.basis_engine.proofs.Links.{Story, Agrees, Away, Here, Link}
 use Rattle.basis_engine.specs.Timing.{Timing, timing_of}
 
 -- Where there were asks after the tenth conflict, the count is at least 10, and the latest of them is the latest ask.
-abbrev pub LastAsk : (row : Timing) → List ℕ → ℕ → Moment → Type 0
+abbrev pub LastAsk : (row : Timing) → List ℕ → ℕ → Option Time → Type 0
 LastAsk row [] count asked = Unit {0}
-LastAsk row (t ∷ earlier) count Never = ⊥
-LastAsk row (t ∷ earlier) count (At asked) = (row.max_conflicts ≤ count) × (t ≡ asked.0)
+LastAsk row (t ∷ earlier) count None = ⊥
+LastAsk row (t ∷ earlier) count (Some asked) = (row.max_conflicts ≤ count) × (t ≡ asked.0)
 
-pub last_ask_counts : (row : Timing) → (asks : List ℕ) (asked : Moment) (count more : ℕ) → count ≤ more → LastAsk row asks count asked →
+pub last_ask_counts : (row : Timing) → (asks : List ℕ) (asked : Option Time) (count more : ℕ) → count ≤ more → LastAsk row asks count asked →
     LastAsk row asks more asked
 last_ask_counts row [] asked count more h last = tt
-last_ask_counts row (t ∷ earlier) Never count more h last = last
-last_ask_counts row (t ∷ earlier) (At asked) count more h last = let ten = last.0 in (omega arith, last.1)
+last_ask_counts row (t ∷ earlier) None count more h last = last
+last_ask_counts row (t ∷ earlier) (Some asked) count more h last = let ten = last.0 in (omega arith, last.1)
 
 pub record Linked (setup : Setup) (s : Interface) (claims : List Claim) (asks : List ℕ) : Type 0 where
   pub kept : s.setup ≡ setup
@@ -179,17 +178,17 @@ module _ (row : Timing) (slot : ℕ) (r : Record) (c : Claim) (agrees : Agrees r
 pub count_marked : (address : Ipv4Address) (mark : Mark) → ((marks : List Mark) → times_of a_conflict (mark ∷ marks) ≡ times_of a_conflict marks) →
     (claims : List Claim) → conflict_count (marked_latest address mark claims) ≡ conflict_count claims
 unfolding conflict_count marked_latest
-count_marked address mark none [] = refl
-count_marked address mark none (c ∷ earlier) = go (is_on address c) (count_marked address mark none earlier)
+count_marked address mark unmarked [] = refl
+count_marked address mark unmarked (c ∷ earlier) = go (is_on address c) (count_marked address mark unmarked earlier)
   where
     go : (b : Bool) → conflict_count (marked_latest address mark earlier) ≡ conflict_count earlier →
         conflict_count (cond b (marked mark c ∷ earlier) (c ∷ marked_latest address mark earlier))
         ≡ length (times_of a_conflict c.marks) + conflict_count earlier
-    go true later = rw (none c.marks)
+    go true later = rw (unmarked c.marks)
     go false later = rw later
 
 pub count_changed : (change : Claim → Claim) → ((c : Claim) → times_of a_conflict (change c).marks ≡ times_of a_conflict c.marks) →
     (claims : List Claim) → conflict_count (map change claims) ≡ conflict_count claims
 unfolding conflict_count
-count_changed change none [] = refl
-count_changed change none (c ∷ earlier) = rw (none c, count_changed change none earlier)
+count_changed change unmarked [] = refl
+count_changed change unmarked (c ∷ earlier) = rw (unmarked c, count_changed change unmarked earlier)

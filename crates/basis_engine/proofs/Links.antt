@@ -3,7 +3,7 @@ use Prim.Native.Nat.{ℕ, ◌<◌}
 use mathlib.Core.Path.{◌≡◌, refl, sym, ◌∙◌, subst}
 use mathlib.Core.Bool.{Bool, true, false, false≢true}
 use mathlib.Core.List.{List, ◌∷◌}
-use mathlib.Core.Option.{some}
+use Rattle.std.specs.Prelude.{Some}
 use mathlib.Core.Logic.{◌⊎◌, inl, inr}
 use lib.Dec.{eqb}
 use lib.ListN.{length, set}
@@ -29,7 +29,7 @@ Story row policy (Settled conflict) marks = InUse row policy conflict 2 marks
 
 pub record Agrees (row : Timing) (slot : ℕ) (r : Record) (c : Claim) : Type 0 where
   pub same_address : c.address.0 ≡ r.address.0
-  pub same_slot : c.slot ≡ some slot
+  pub same_slot : c.slot ≡ Some slot
   pub same_policy : c.policy ≡ r.policy
   pub story : Story row r.policy r.stage c.marks
 

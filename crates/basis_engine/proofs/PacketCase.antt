@@ -3,7 +3,7 @@ use Prim.Native.Nat.{ℕ, suc, ◌+◌, ◌<◌, ◌≤◌, min}
 use mathlib.Core.Path.{◌≡◌, refl, sym, ap, ◌∙◌}
 use mathlib.Core.Bool.{Bool, true, false, cond, ◌&&◌, true≢false, false≢true}
 use mathlib.Core.List.{List, [], ◌∷◌, map}
-use mathlib.Core.Option.{Option, none, some}
+use Rattle.std.specs.Prelude.{Option, None, Some}
 use mathlib.Core.Logic.{inl, inr}
 use native.Mathlib.Nat.{zero-add}
 use native.Mathlib.Omega.{arith}
@@ -14,8 +14,6 @@ use Rattle.basis.specs.Frame.{announcement, frame_of, frame_put}
 use Rattle.basis.specs.declared.Ipv4Address.{Ipv4Address}
 use Rattle.basis.specs.declared.Setup.{Setup}
 use Rattle.basis.specs.declared.Time.{Time}
-use Rattle.basis.specs.declared.Moment.{Moment}
-use Rattle.basis.specs.declared.Moment.TheVariants.{At}
 use Rattle.basis.specs.declared.Frame.{Frame}
 use Rattle.basis.specs.declared.Stage.{Stage}
 use Rattle.basis.specs.declared.Stage.TheVariants.{Free, Probing, Announced, Settled}
@@ -56,8 +54,8 @@ module _ (row : Timing) (policy : ℕ) (latest t : Time) (later : latest.0 ≤ t
   lost_story (Announced deadline conflict) e story = ended_by_surrender row policy t marks (lost_surrenders row policy conflict 1 t marks story e)
   lost_story (Settled conflict) e story = ended_by_surrender row policy t marks (lost_surrenders row policy conflict 2 t marks story e)
 
-  kept_in_use : (conflict : Moment) (sent : ℕ) → InUse row policy conflict sent marks → by_policy row policy t conflict ≡ Keep →
-      is_past latest conflict ≡ true → InUse row policy (At t) sent (mark a_conflict t ∷ marks)
+  kept_in_use : (conflict : Option Time) (sent : ℕ) → InUse row policy conflict sent marks → by_policy row policy t conflict ≡ Keep →
+      is_past latest conflict ≡ true → InUse row policy (Some t) sent (mark a_conflict t ∷ marks)
   kept_in_use conflict sent w e past =
       conflict_borne row policy conflict sent t marks w (past_later latest t conflict later past) (kept_bears row policy conflict sent t marks w e)
 
@@ -70,8 +68,8 @@ module _ (row : Timing) (policy : ℕ) (latest t : Time) (later : latest.0 ≤ t
       kept_in_use conflict 1 story e (and_both (is_near latest deadline) (is_past latest conflict) sound).1
   kept_story (Settled conflict) e sound story = kept_in_use conflict 2 story e sound
 
-  defended_in_use : (conflict : Moment) (sent : ℕ) → InUse row policy conflict sent marks → by_policy row policy t conflict ≡ Defend →
-      is_past latest conflict ≡ true → InUse row policy (At t) sent (mark a_defence t ∷ (mark a_conflict t ∷ marks))
+  defended_in_use : (conflict : Option Time) (sent : ℕ) → InUse row policy conflict sent marks → by_policy row policy t conflict ≡ Defend →
+      is_past latest conflict ≡ true → InUse row policy (Some t) sent (mark a_defence t ∷ (mark a_conflict t ∷ marks))
   defended_in_use conflict sent w e past =
       let facts = defended_bears row policy conflict sent t marks w e in
       defence_sent row policy conflict sent t marks
@@ -148,7 +146,7 @@ module _ (setup : Setup) (s : Interface) (claims : List Claim) (asks : List ℕ)
       ∙ ap (λ (own : Setup). is_conflict own f (record_at s.records slot)) (sym linked.kept)
 
   -- No conflict is found.
-  module _ (found : lowest (is_conflict s.setup f) s.records ≡ none) where
+  module _ (found : lowest (is_conflict s.setup f) s.records ≡ None) where
     spared : (address : Ipv4Address) (here : Here (timing_of setup) address s.records (on address claims)) → is_conflict_with setup f here.latest ≡ false
     spared address here =
         agreed_conflict here.slot here.latest here.agrees
@@ -161,13 +159,13 @@ module _ (setup : Setup) (s : Interface) (claims : List Claim) (asks : List ℕ)
         (λ address. unconcerned_each (timing_of setup) (is_conflict_with setup f) (mark a_conflict t) address s.records (on address claims)
         (linked.links address) (spared address)))
 
-    packet_nothing : LinkedAfter setup claims asks (Call.Packet t) bytes out (meet s t f none)
+    packet_nothing : LinkedAfter setup claims asks (Call.Packet t) bytes out (meet s t f None)
     unfolding claims_after f
     packet_nothing =
         rw untouched_claims (linked_later setup s claims asks t linked)
 
   -- A conflict is found.
-  module _ (slot : ℕ) (found : lowest (is_conflict s.setup f) s.records ≡ some slot) where
+  module _ (slot : ℕ) (found : lowest (is_conflict s.setup f) s.records ≡ Some slot) where
     r : Record
     r = record_at s.records slot
 
@@ -380,7 +378,7 @@ module _ (setup : Setup) (s : Interface) (claims : List Claim) (asks : List ℕ)
       packet_conflict Keep e = kept e
 
 pub packet_linked : (setup : Setup) (s : Interface) (claims : List Claim) (asks : List ℕ) → Linked setup s claims asks →
-    (time : Time) (bytes out : List ℕ) → packet_refusal s time bytes (length out) ≡ none →
+    (time : Time) (bytes out : List ℕ) → packet_refusal s time bytes (length out) ≡ None →
     LinkedAfter setup claims asks (Call.Packet time) bytes out (packet_outcome s time bytes)
 unfolding packet_outcome resolution f r
 packet_linked setup s claims asks linked t bytes out e = go (lowest (is_conflict s.setup (frame_of bytes)) s.records) refl
@@ -390,8 +388,8 @@ packet_linked setup s claims asks linked t bytes out e = go (lowest (is_conflict
 
     go : (o : Option ℕ) → lowest (is_conflict s.setup (frame_of bytes)) s.records ≡ o →
         LinkedAfter setup claims asks (Call.Packet t) bytes out (meet s t (frame_of bytes) o)
-    go none found = packet_nothing setup s claims asks linked t bytes out admission found
-    go (some slot) found =
+    go None found = packet_nothing setup s claims asks linked t bytes out admission found
+    go (Some slot) found =
         let q = record_at s.records slot in
         let taken = held setup s claims asks linked t bytes out admission slot found in
         let w = linked_here (timing_of setup) q.address s.records (on q.address claims) slot (holds_own q taken) (linked.links q.address) in

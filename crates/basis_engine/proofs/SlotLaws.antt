@@ -3,7 +3,7 @@ use Prim.Native.Nat.{ℕ, zero, suc, ◌+◌, ◌<◌}
 use mathlib.Core.Path.{◌≡◌, refl, sym, ap, ◌∙◌}
 use mathlib.Core.Bool.{Bool, true, false, cond, ◌||◌, true≢false, false≢true}
 use mathlib.Core.List.{List, [], ◌∷◌}
-use mathlib.Core.Option.{Option, none, some}
+use Rattle.std.specs.Prelude.{Option, None, Some}
 use native.Mathlib.Nat.{not-le_of_lt}
 use native.Mathlib.Omega.{arith}
 use lib.ListN.{length}
@@ -11,12 +11,12 @@ use Rattle.basis.specs.declared.Record.{Record}
 use Rattle.basis.proofs.BytesLaws.{and_both}
 use Rattle.basis_engine.specs.Slots.{free_record, record_at, any, all, lowest_from, lowest}
 
-pub none≢some : {n : ℕ} → none ≡ some n → ⊥
+pub none≢some : {n : ℕ} → None ≡ Some n → ⊥
 none≢some {n} e = false≢true (ap is_some e)
   where
     is_some : Option ℕ → Bool
-    is_some none = false
-    is_some (some n) = true
+    is_some None = false
+    is_some (Some n) = true
 
 -- Both parts of a test that fails.
 pub neither : (a b : Bool) → (a || b) ≡ false → (a ≡ false) × (b ≡ false)
@@ -29,21 +29,21 @@ module _ (test : Record → Bool) where
   Found n records slot = (k : ℕ) × (slot ≡ n + k) × (test (record_at records k) ≡ true) × (k < length records)
 
   found_here : (n slot : ℕ) (r : Record) (records : List Record) (rest : Option ℕ) →
-      (rest ≡ some slot → Found (suc n) records slot) → (b : Bool) → test r ≡ b → cond b (some n) rest ≡ some slot →
+      (rest ≡ Some slot → Found (suc n) records slot) → (b : Bool) → test r ≡ b → cond b (Some n) rest ≡ Some slot →
       Found n (r ∷ records) slot
   unfolding Found
   found_here n slot r records rest later true t e = let q : n ≡ slot = cc in (zero, omega arith, t, omega arith)
   found_here n slot r records rest later false t e =
       let w = later e in (suc w.0, omega arith, w.2, omega arith)
 
-  found : (n : ℕ) (records : List Record) (slot : ℕ) → lowest_from n test records ≡ some slot → Found n records slot
+  found : (n : ℕ) (records : List Record) (slot : ℕ) → lowest_from n test records ≡ Some slot → Found n records slot
   unfolding lowest_from
   found n [] slot e = absurd (none≢some e)
   found n (r ∷ records) slot e =
       found_here n slot r records (lowest_from (suc n) test records) (found (suc n) records slot) (test r) refl e
 
   -- A lowest slot is one of which the test holds, and a slot at all.
-  pub lowest_holds : (records : List Record) (slot : ℕ) → lowest test records ≡ some slot →
+  pub lowest_holds : (records : List Record) (slot : ℕ) → lowest test records ≡ Some slot →
       (test (record_at records slot) ≡ true) × (slot < length records)
   unfolding Found
   lowest_holds records slot e =
@@ -52,36 +52,36 @@ module _ (test : Record → Bool) where
       rw (← q) (w.2, w.3)
 
   -- And it is the lowest: the test fails of each one below.
-  below : (n : ℕ) (records : List Record) (slot k : ℕ) → lowest_from n test records ≡ some slot → n + k < slot →
+  below : (n : ℕ) (records : List Record) (slot k : ℕ) → lowest_from n test records ≡ Some slot → n + k < slot →
       test (record_at records k) ≡ false
   unfolding lowest_from
   below n [] slot k e h = absurd (none≢some e)
   below n (r ∷ records) slot k e h = go (below (suc n) records slot) (test r) refl e k h
     where
-      go : ((k : ℕ) → lowest_from (suc n) test records ≡ some slot → suc n + k < slot → test (record_at records k) ≡ false) →
-          (b : Bool) → test r ≡ b → cond b (some n) (lowest_from (suc n) test records) ≡ some slot →
+      go : ((k : ℕ) → lowest_from (suc n) test records ≡ Some slot → suc n + k < slot → test (record_at records k) ≡ false) →
+          (b : Bool) → test r ≡ b → cond b (Some n) (lowest_from (suc n) test records) ≡ Some slot →
           (k : ℕ) → n + k < slot → test (record_at (r ∷ records) k) ≡ false
       go later true t e k h = absurd (not-le_of_lt h (let q : n ≡ slot = cc in omega arith))
       go later false t e zero h = t
       go later false t e (suc k) h = later k e (omega arith)
 
-  pub lowest_below : (records : List Record) (slot other : ℕ) → lowest test records ≡ some slot → other < slot →
+  pub lowest_below : (records : List Record) (slot other : ℕ) → lowest test records ≡ Some slot → other < slot →
       test (record_at records other) ≡ false
   lowest_below records slot other e h = below 0 records slot other e (omega arith)
 
   -- Where there is none, the test fails of each slot, also past the end if it fails of a free record.
-  pub none_fails : (n : ℕ) (records : List Record) (slot : ℕ) → test free_record ≡ false → lowest_from n test records ≡ none →
+  pub none_fails : (n : ℕ) (records : List Record) (slot : ℕ) → test free_record ≡ false → lowest_from n test records ≡ None →
       test (record_at records slot) ≡ false
   unfolding lowest_from
   none_fails n [] slot f e = f
   none_fails n (r ∷ records) zero f e = go (test r) refl e
     where
-      go : (b : Bool) → test r ≡ b → cond b (some n) (lowest_from (suc n) test records) ≡ none → test r ≡ false
+      go : (b : Bool) → test r ≡ b → cond b (Some n) (lowest_from (suc n) test records) ≡ None → test r ≡ false
       go true t e = cc
       go false t e = t
   none_fails n (r ∷ records) (suc slot) f e = none_fails (suc n) records slot f (go (test r) e)
     where
-      go : (b : Bool) → cond b (some n) (lowest_from (suc n) test records) ≡ none → lowest_from (suc n) test records ≡ none
+      go : (b : Bool) → cond b (Some n) (lowest_from (suc n) test records) ≡ None → lowest_from (suc n) test records ≡ None
       go true e = cc
       go false e = e
 

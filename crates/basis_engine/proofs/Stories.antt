@@ -1,4 +1,5 @@
 -- The marks of one claim, stage by stage: while it probes, and while it is in use.
+use Rattle.std.specs.Prelude.{Option, Some, None}
 use Prim.Native.Nat.{ℕ, suc, ◌+◌, ◌<◌, ◌≤◌}
 use mathlib.Core.Path.{◌≡◌, refl, ap, ◌∙◌}
 use mathlib.Core.Bool.{Bool, true, false, cond, not, ◌&&◌, ◌||◌}
@@ -8,8 +9,6 @@ use lib.Dec.{ltb, eqb}
 use lib.ListN.{length}
 use borrow.Author.Tests.{lt-ltb, le-ltb, ltb-false, leb-true}
 use Rattle.basis.specs.declared.Time.{Time}
-use Rattle.basis.specs.declared.Moment.{Moment}
-use Rattle.basis.specs.declared.Moment.TheVariants.{Never, At}
 use Rattle.basis.specs.declared.Resolution.{Resolution}
 use Rattle.basis.specs.declared.Resolution.TheVariants.{Lose, Defend, Keep}
 use Rattle.basis_engine.specs.Timing.{Timing, gap, is_within}
@@ -42,7 +41,7 @@ pub record Untouched (row : Timing) (policy : ℕ) (marks : List Mark) : Type 0 
   pub no_announcements : times_of an_announcement marks ≡ []
   pub no_defences : times_of a_defence marks ≡ []
   pub no_conflicts : times_of a_conflict marks ≡ []
-  pub no_last_conflict : last_conflict marks ≡ Never
+  pub no_last_conflict : last_conflict marks ≡ None
 
 untouched_probe : (row : Timing) → (policy : ℕ) (sign : Sign) (t : Time) (earlier : List Mark) → IsProbe sign → Untouched row policy earlier →
     Untouched row policy (mark sign t ∷ earlier)
@@ -130,13 +129,13 @@ probing_bounded row sent deadline marks w =
     }
 
 -- Defences none of which came after the last conflict.
-abbrev pub Behind : List ℕ → Moment → Type 0
+abbrev pub Behind : List ℕ → Option Time → Type 0
 Behind [] last = Unit {0}
-Behind (t ∷ earlier) Never = ⊥
-Behind (t ∷ earlier) (At last) = t ≤ last.0
+Behind (t ∷ earlier) None = ⊥
+Behind (t ∷ earlier) (Some last) = t ≤ last.0
 
 -- A claim in use: it went through, it was not given up, its last conflict was this one, and it sent so many announcements.
-pub record InUse (row : Timing) (policy : ℕ) (conflict : Moment) (sent : ℕ) (marks : List Mark) : Type 0 where
+pub record InUse (row : Timing) (policy : ℕ) (conflict : Option Time) (sent : ℕ) (marks : List Mark) : Type 0 where
   pub since : List Mark
   pub announced_at : Time
   pub before : List Mark
@@ -151,7 +150,7 @@ pub record InUse (row : Timing) (policy : ℕ) (conflict : Moment) (sent : ℕ) 
   pub behind : Behind (times_of a_defence marks) conflict
 
 pub first_announced : (row : Timing) → (policy deadline : ℕ) (t : Time) (marks : List Mark) → Probed row row.probe_num deadline marks → deadline ≤ t.0 →
-    InUse row policy Never 1 (mark an_announcement t ∷ marks)
+    InUse row policy None 1 (mark an_announcement t ∷ marks)
 unfolding times_of is_open_after
 first_announced row policy deadline t marks w late =
     let quiet = untouched row policy marks w.only in
@@ -176,7 +175,7 @@ first_announced row policy deadline t marks w late =
       behind = rw quiet.no_defences tt;
     }
 
-pub second_announced : (row : Timing) → (policy : ℕ) (conflict : Moment) (t : Time) (marks : List Mark) → InUse row policy conflict 1 marks →
+pub second_announced : (row : Timing) → (policy : ℕ) (conflict : Option Time) (t : Time) (marks : List Mark) → InUse row policy conflict 1 marks →
     InUse row policy conflict 2 (mark an_announcement t ∷ marks)
 unfolding times_of is_open_after
 second_announced row policy conflict t marks w =
@@ -195,13 +194,13 @@ second_announced row policy conflict t marks w =
       behind = w.behind;
     }
 
-behind_later : (times : List ℕ) (conflict : Moment) (t : Time) → is_past t conflict ≡ true → Behind times conflict → Behind times (At t)
+behind_later : (times : List ℕ) (conflict : Option Time) (t : Time) → is_past t conflict ≡ true → Behind times conflict → Behind times (Some t)
 behind_later [] conflict t past behind = tt
-behind_later (d ∷ earlier) Never t past behind = absurd behind
-behind_later (d ∷ earlier) (At last) t past behind = let h = leb-true last.0 t.0 past in omega arith
+behind_later (d ∷ earlier) None t past behind = absurd behind
+behind_later (d ∷ earlier) (Some last) t past behind = let h = leb-true last.0 t.0 past in omega arith
 
-pub conflict_borne : (row : Timing) → (policy : ℕ) (conflict : Moment) (sent : ℕ) (t : Time) (marks : List Mark) → InUse row policy conflict sent marks →
-    is_past t conflict ≡ true → is_surrender row policy marks t ≡ false → InUse row policy (At t) sent (mark a_conflict t ∷ marks)
+pub conflict_borne : (row : Timing) → (policy : ℕ) (conflict : Option Time) (sent : ℕ) (t : Time) (marks : List Mark) → InUse row policy conflict sent marks →
+    is_past t conflict ≡ true → is_surrender row policy marks t ≡ false → InUse row policy (Some t) sent (mark a_conflict t ∷ marks)
 unfolding times_of is_open_after
 conflict_borne row policy conflict sent t marks w past borne =
     record {
@@ -219,17 +218,17 @@ conflict_borne row policy conflict sent t marks w past borne =
       behind = behind_later (times_of a_defence marks) conflict t past w.behind;
     }
 
-defence_after : (row : Timing) → (times : List ℕ) (conflict : Moment) (t : Time) → is_within row.defend_interval t conflict ≡ false →
+defence_after : (row : Timing) → (times : List ℕ) (conflict : Option Time) (t : Time) → is_within row.defend_interval t conflict ≡ false →
     Behind times conflict → IsAfter row.defend_interval times t.0
 defence_after row [] conflict t quiet behind = tt
-defence_after row (d ∷ earlier) Never t quiet behind = absurd behind
-defence_after row (d ∷ earlier) (At last) t quiet behind =
+defence_after row (d ∷ earlier) None t quiet behind = absurd behind
+defence_after row (d ∷ earlier) (Some last) t quiet behind =
     let h = ltb-false t.0 (last.0 + row.defend_interval) quiet in omega arith
 
 -- A defence of the conflict just seen, the one before it being long ago or none.
-pub defence_sent : (row : Timing) → (policy : ℕ) (conflict : Moment) (sent : ℕ) (t : Time) (marks : List Mark) → InUse row policy (At t) sent (mark a_conflict t ∷ marks) →
+pub defence_sent : (row : Timing) → (policy : ℕ) (conflict : Option Time) (sent : ℕ) (t : Time) (marks : List Mark) → InUse row policy (Some t) sent (mark a_conflict t ∷ marks) →
     Behind (times_of a_defence marks) conflict → is_within row.defend_interval t conflict ≡ false →
-    InUse row policy (At t) sent (mark a_defence t ∷ (mark a_conflict t ∷ marks))
+    InUse row policy (Some t) sent (mark a_defence t ∷ (mark a_conflict t ∷ marks))
 unfolding times_of is_open_after
 defence_sent row policy conflict sent t marks w behind quiet =
     record {
@@ -247,7 +246,7 @@ defence_sent row policy conflict sent t marks w behind quiet =
       behind = omega arith;
     }
 
-pub in_use_bounded : (row : Timing) → (policy : ℕ) (conflict : Moment) (sent : ℕ) (marks : List Mark) → sent ≤ row.announce_num →
+pub in_use_bounded : (row : Timing) → (policy : ℕ) (conflict : Option Time) (sent : ℕ) (marks : List Mark) → sent ≤ row.announce_num →
     InUse row policy conflict sent marks → Bounded row marks
 in_use_bounded row policy conflict sent marks few w =
     let all = w.all_probes in
@@ -310,7 +309,7 @@ kept_tests false true true e = cc
 kept_tests false false true e = refl
 kept_tests false two false e = cc
 
-module _ (row : Timing) (policy : ℕ) (conflict : Moment) (sent : ℕ) (t : Time) (marks : List Mark) (w : InUse row policy conflict sent marks) where
+module _ (row : Timing) (policy : ℕ) (conflict : Option Time) (sent : ℕ) (t : Time) (marks : List Mark) (w : InUse row policy conflict sent marks) where
   near : Bool
   near = is_within row.defend_interval t conflict
 

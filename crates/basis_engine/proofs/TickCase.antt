@@ -3,7 +3,7 @@ use Prim.Native.Nat.{ℕ, ◌≤◌}
 use mathlib.Core.Path.{◌≡◌, refl, sym, subst}
 use mathlib.Core.Bool.{Bool, true, false, cond}
 use mathlib.Core.List.{List, ◌∷◌}
-use mathlib.Core.Option.{Option, none, some}
+use Rattle.std.specs.Prelude.{Option, None, Some}
 use mathlib.Core.Logic.{inr}
 use native.Mathlib.Omega.{arith}
 use lib.Dec.{ltb, eqb}
@@ -15,7 +15,6 @@ use Rattle.basis.specs.declared.Setup.{Setup}
 use Rattle.basis.specs.declared.Time.{Time}
 use Rattle.basis.specs.declared.Frame.{Frame}
 use Rattle.basis.specs.declared.Kind.TheVariants.{Announce}
-use Rattle.basis.specs.declared.Moment.TheVariants.{Never}
 use Rattle.basis.specs.declared.Stage.{Stage}
 use Rattle.basis.specs.declared.Stage.TheVariants.{Free, Probing, Announced, Settled}
 use Rattle.basis.specs.declared.Record.{Record}
@@ -40,7 +39,7 @@ use Rattle.basis_engine.proofs.Invariant.{Linked, LinkedAfter, by_address, holds
 -- What a stage that is due sends, and what that leaves.
 record Served (row : Timing) (address : Ipv4Address) (policy : ℕ) (t : Time) (marks : List Mark) (due : DueFrame) (stage : Stage) : Type 0 where
   frame : Frame
-  sends : due.frame ≡ some frame
+  sends : due.frame ≡ Some frame
   counts : handed_out_by due.kind ≡ hands_due
   target : frame.target.ip ≡ address
   reads : (out : List ℕ) → frame_of (frame_put frame out) ≡ frame
@@ -54,7 +53,7 @@ module _ (setup : Setup) (address : Ipv4Address) (policy : ℕ) (t : Time) (draw
   announces = rw (ne_eqb address.0 0 (λ e. let h = (allowed_number address allowed).0 in omega arith))
 
   announced_served : (stage : Stage) → is_free_stage stage ≡ false → Story (timing_of setup) policy stage (mark an_announcement t ∷ marks) →
-      Served (timing_of setup) address policy t marks (record { kind = Announce; frame = some (announcement (sender_of setup) address) }) stage
+      Served (timing_of setup) address policy t marks (record { kind = Announce; frame = Some (announcement (sender_of setup) address) }) stage
   unfolding announcement
   announced_served stage taken story =
       record {
@@ -67,7 +66,7 @@ module _ (setup : Setup) (address : Ipv4Address) (policy : ℕ) (t : Time) (draw
         taken = taken;
       }
 
-  served_stage : (stage : Stage) (deadline : ℕ) → deadline_of stage ≡ some deadline → deadline ≤ t.0 → Story (timing_of setup) policy stage marks →
+  served_stage : (stage : Stage) (deadline : ℕ) → deadline_of stage ≡ Some deadline → deadline ≤ t.0 → Story (timing_of setup) policy stage marks →
       Served (timing_of setup) address policy t marks (due_frame_at (timing_of setup) setup address stage) (stage_after (timing_of setup) t draw stage)
   unfolding probe stage_after
   served_stage Free deadline has late story = absurd (none≢some has)
@@ -94,7 +93,7 @@ module _ (setup : Setup) (address : Ipv4Address) (policy : ℕ) (t : Time) (draw
           let most = story.at_most in
           let all : sent ≡ (timing_of setup).probe_num = omega arith in
           rw e
-          (announced_served (Announced (after t (timing_of setup).announce_interval) Never) refl
+          (announced_served (Announced (after t (timing_of setup).announce_interval) None) refl
           (first_announced (timing_of setup) policy d.0 t marks (subst (λ (n : ℕ). Probed (timing_of setup) n d.0 marks) all story) past))
   served_stage (Announced d conflict) deadline has late story =
       announced_served (Settled conflict) refl (second_announced (timing_of setup) policy conflict t marks story)
@@ -103,7 +102,7 @@ module _ (setup : Setup) (address : Ipv4Address) (policy : ℕ) (t : Time) (draw
 module _ (setup : Setup) (s : Interface) (claims : List Claim) (asks : List ℕ) (linked : Linked setup s claims asks)
     (time : Time) (draw : ℕ) (bytes out : List ℕ) (admission : Admitted s time) where
   -- Nothing is due.
-  tick_nothing : LinkedAfter setup claims asks (Call.Tick time draw) bytes out (serve s time draw none)
+  tick_nothing : LinkedAfter setup claims asks (Call.Tick time draw) bytes out (serve s time draw None)
   unfolding claims_after
   tick_nothing = linked_later setup s claims asks time linked
 
@@ -125,7 +124,7 @@ module _ (setup : Setup) (s : Interface) (claims : List Claim) (asks : List ℕ)
     unfolding r
     held = go (record_at s.records slot).stage due.has
       where
-        go : (stage : Stage) → deadline_of stage ≡ some due.deadline → is_free_stage stage ≡ false
+        go : (stage : Stage) → deadline_of stage ≡ Some due.deadline → is_free_stage stage ≡ false
         go Free e = absurd (none≢some e)
         go (Probing sent d) e = refl
         go (Announced d conflict) e = refl
@@ -175,7 +174,7 @@ module _ (setup : Setup) (s : Interface) (claims : List Claim) (asks : List ℕ)
           go true = refl
           go false = refl
 
-      tick_done : LinkedAfter setup claims asks (Call.Tick time draw) bytes out (serve s time draw (some slot))
+      tick_done : LinkedAfter setup claims asks (Call.Tick time draw) bytes out (serve s time draw (Some slot))
       unfolding claims_after r due_frame_lem stage new sent
       tick_done =
           let same = count_marked r.address sent mark_conflicts claims in
@@ -191,7 +190,7 @@ module _ (setup : Setup) (s : Interface) (claims : List Claim) (asks : List ℕ)
           })
 
 pub tick_linked : (setup : Setup) (s : Interface) (claims : List Claim) (asks : List ℕ) → Linked setup s claims asks →
-    (time : Time) (draw : ℕ) (bytes out : List ℕ) → tick_refusal s time draw (length out) ≡ none →
+    (time : Time) (draw : ℕ) (bytes out : List ℕ) → tick_refusal s time draw (length out) ≡ None →
     LinkedAfter setup claims asks (Call.Tick time draw) bytes out (tick_outcome s time draw)
 unfolding tick_outcome r
 tick_linked setup s claims asks linked time draw bytes out e = go (due_slot time s.records) refl
@@ -201,8 +200,8 @@ tick_linked setup s claims asks linked time draw bytes out e = go (due_slot time
 
     go : (o : Option ℕ) → due_slot time s.records ≡ o →
         LinkedAfter setup claims asks (Call.Tick time draw) bytes out (serve s time draw o)
-    go none d = tick_nothing setup s claims asks linked time draw bytes out admission
-    go (some slot) d =
+    go None d = tick_nothing setup s claims asks linked time draw bytes out admission
+    go (Some slot) d =
         let due = due_slot_lem time s.records slot d in
         let address = (record_at s.records slot).address in
         let w = linked_here (timing_of setup) address s.records (on address claims) slot

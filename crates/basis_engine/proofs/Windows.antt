@@ -22,14 +22,14 @@ module _ (ms a b : ℕ) where
       let w = and_both (leb a time) (leb time b) e in
       let low = leb-true a time w.0 in
       let high = leb-true time b w.1 in
-      let none = zero-mul ms in
+      let None = zero-mul ms in
       inr (0, omega arith, omega arith, omega arith)
   one time false e = inl (omega arith)
 
   more : (time before count : ℕ) (inside : Bool) → (leb a time && leb time b) ≡ inside → before + ms ≤ time → Fits count before →
       Fits (cond inside 1 0 + count) time
   unfolding Fits
-  more time before count true e apart (inl none) =
+  more time before count true e apart (inl few) =
       let w = and_both (leb a time) (leb time b) e in
       let low = leb-true a time w.0 in
       let high = leb-true time b w.1 in
@@ -41,7 +41,7 @@ module _ (ms a b : ℕ) where
       let told = w.1 in
       let fits = w.2 in
       inr (suc w.0, omega arith, omega arith, omega arith)
-  more time before count false e apart (inl none) = inl (omega arith)
+  more time before count false e apart (inl few) = inl (omega arith)
   more time before count false e apart (inr w) =
       let told = w.1 in
       let fits = w.2 in
@@ -57,7 +57,7 @@ pub spaced_few : (ms : ℕ) → 0 < ms → (times : List ℕ) → Spaced ms time
 unfolding Fits
 spaced_few ms h [] spaced a b le = omega arith
 spaced_few ms h (time ∷ earlier) spaced a b le =
-    ⊎_elim (λ none. rw none (omega arith)) (λ w. go w.0 w.1 w.3) (latest ms a b time earlier spaced)
+    ⊎_elim (λ None. rw None (omega arith)) (λ w. go w.0 w.1 w.3) (latest ms a b time earlier spaced)
   where
     go : (n : ℕ) → count_from a b (time ∷ earlier) ≡ suc n → a + n * ms ≤ b → count_from a b (time ∷ earlier) ≤ (b - a) / ms + 1
     go n e fits =

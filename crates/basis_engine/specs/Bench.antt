@@ -1,6 +1,5 @@
 -- Document 01, "Bench cases": W1 to W12, one table under one claim; and the whole case of "Replay lines", from inside and outside.
-use Rattle.std.specs.Prelude.{ℕ, ◌≡◌, List, [], ◌∷◌, map, ℤ, pos, negsuc, length, replicate}
-use Rattle.std.proofs.Math.Option.{Option, none, some}
+use Rattle.std.specs.Prelude.{ℕ, ◌≡◌, List, [], ◌∷◌, map, ℤ, pos, negsuc, length, replicate, Option, None, Some}
 use Rattle.basis.specs.Answers.{Report, refused, accepted, Accepted}
 use Rattle.basis.specs.Frame.{frame_length, frame_bytes, probe, announcement}
 use Rattle.basis.specs.Clock.{ClockReport, clock_of}
@@ -9,8 +8,6 @@ use Rattle.basis.specs.declared.HardwareAddress.{HardwareAddress}
 use Rattle.basis.specs.declared.Setup.{Setup}
 use Rattle.basis.specs.declared.Call.{Call}
 use Rattle.basis.specs.declared.Time.{Time}
-use Rattle.basis.specs.declared.Moment.{Moment}
-use Rattle.basis.specs.declared.Moment.TheVariants.{Never, At}
 use Rattle.basis.specs.declared.Stage.{Stage}
 use Rattle.basis.specs.declared.Stage.TheVariants.{Probing, Settled}
 use Rattle.basis.specs.declared.Interface.{Interface}
@@ -76,10 +73,10 @@ abbrev pub ipv4 : Ipv4Address
 ipv4 = record { 0 = 0xc0000207 }
 
 -- An interface that holds 192.0.2.7 in slot 0, with this policy, stage, count and time of the latest ask.
-abbrev pub holding : ℕ → Stage → ℕ → Moment → Interface
+abbrev pub holding : ℕ → Stage → ℕ → Option Time → Interface
 holding policy stage count asked =
     changed (new_interface setup) (at 10_000) asked count
-    (put_at (new_interface setup).records (some 0) (record { address = ipv4; policy = policy; stage = stage }))
+    (put_at (new_interface setup).records (Some 0) (record { address = ipv4; policy = policy; stage = stage }))
 
 -- Another machine's announcement of our address, at this time.
 abbrev pub conflict_at : ℕ → Invocation
@@ -103,39 +100,39 @@ cases =
     ∷ record { rules = seen_clock (clock_of 0 2_147_483_648) ∷ []; paper = stays (negsuc 2_147_483_647) 4 ∷ [] }
     -- W6 "policy 2, conflicts at 20,000 and 29,999: defend, lost"
     ∷ record {
-      rules = answers (holding 2 (Settled Never) 0 Never) (map conflict_at (20_000 ∷ 29_999 ∷ []));
+      rules = answers (holding 2 (Settled None) 0 None) (map conflict_at (20_000 ∷ 29_999 ∷ []));
       paper = kind Defend ∷ kind Lost ∷ [];
     }
     -- W7 "the same at 20,000 and 30,000: defend twice"
     ∷ record {
-      rules = answers (holding 2 (Settled Never) 0 Never) (map conflict_at (20_000 ∷ 30_000 ∷ []));
+      rules = answers (holding 2 (Settled None) 0 None) (map conflict_at (20_000 ∷ 30_000 ∷ []));
       paper = kind Defend ∷ kind Defend ∷ [];
     }
     -- W8 "policy 3 at 20,000, 29,999, 35,000, 45,000: defend, kept, kept, defend"
     ∷ record {
-      rules = answers (holding 3 (Settled Never) 0 Never) (map conflict_at (20_000 ∷ 29_999 ∷ 35_000 ∷ 45_000 ∷ []));
+      rules = answers (holding 3 (Settled None) 0 None) (map conflict_at (20_000 ∷ 29_999 ∷ 35_000 ∷ 45_000 ∷ []));
       paper = kind Defend ∷ kind Kept ∷ kind Kept ∷ kind Defend ∷ [];
     }
     -- W9 "count 10, request at 100,000: an ask at 159,999 is 12, at 160,000 taken"
     ∷ record {
       rules = answers
-          (changed (new_interface setup) (at 100_000) (At (at 100_000)) 10 (new_interface setup).records)
+          (changed (new_interface setup) (at 100_000) (Some (at 100_000)) 10 (new_interface setup).records)
           (bare (Call.Ask (at 159_999) ipv4 1 0) ∷ bare (Call.Ask (at 160_000) ipv4 1 0) ∷ []);
       paper = refusal 12 ∷ kind Taken ∷ [];
     }
     -- W10 "our own echoed probe: none"
     ∷ record {
-      rules = answers (holding 2 (Probing 1 (at 11_000)) 0 Never) (lending (frame_bytes (probe ours ipv4)) (Call.Packet (at 10_000)) ∷ []);
+      rules = answers (holding 2 (Probing 1 (at 11_000)) 0 None) (lending (frame_bytes (probe ours ipv4)) (Call.Packet (at 10_000)) ∷ []);
       paper = kind Nothing ∷ [];
     }
     -- W11 "another's probe for a settled address: none"
     ∷ record {
-      rules = answers (holding 2 (Settled Never) 0 Never) (lending (frame_bytes (probe another ipv4)) (Call.Packet (at 10_000)) ∷ []);
+      rules = answers (holding 2 (Settled None) 0 None) (lending (frame_bytes (probe another ipv4)) (Call.Packet (at 10_000)) ∷ []);
       paper = kind Nothing ∷ [];
     }
     -- W12 "addresses 223.255.255.255 allowed, 224.0.0.0 refused with 8"
     ∷ record {
-      rules = answers (holding 2 (Settled Never) 0 Never)
+      rules = answers (holding 2 (Settled None) 0 None)
           (bare (Call.Ask (at 10_000) (record { 0 = 0xe0000000 }) 1 0) ∷ bare (Call.Ask (at 10_000) (record { 0 = 0xdfffffff }) 1 0) ∷ []);
       paper = refusal 8 ∷ kind Taken ∷ [];
     }
@@ -173,14 +170,14 @@ whole_case =
 abbrev pub WholeCase : Type 0
 WholeCase =
     lines zeros whole_case
-    ≡ line Fresh none none []
-    ∷ line Taken (some 0) (some 600) []
-    ∷ line Nothing none (some 600) blank
-    ∷ line Probe (some 0) (some 1_600) (frame_bytes (probe ours ipv4))
-    ∷ line Probe (some 0) (some 3_600) (frame_bytes (probe ours ipv4))
-    ∷ line Probe (some 0) (some 5_600) (frame_bytes (probe ours ipv4))
-    ∷ line Announce (some 0) (some 7_600) (frame_bytes (announcement ours ipv4))
-    ∷ line Announce (some 0) none (frame_bytes (announcement ours ipv4))
+    ≡ line Fresh None None []
+    ∷ line Taken (Some 0) (Some 600) []
+    ∷ line Nothing None (Some 600) blank
+    ∷ line Probe (Some 0) (Some 1_600) (frame_bytes (probe ours ipv4))
+    ∷ line Probe (Some 0) (Some 3_600) (frame_bytes (probe ours ipv4))
+    ∷ line Probe (Some 0) (Some 5_600) (frame_bytes (probe ours ipv4))
+    ∷ line Announce (Some 0) (Some 7_600) (frame_bytes (announcement ours ipv4))
+    ∷ line Announce (Some 0) None (frame_bytes (announcement ours ipv4))
     ∷ []
 
 -- And what is seen of it from outside: one claim, with PROBE_NUM probes and ANNOUNCE_NUM announcements.
@@ -195,7 +192,7 @@ whole_claim =
     record {
       address = ipv4;
       policy = 2;
-      slot = some 0;
+      slot = Some 0;
       marks =
           mark an_announcement (at 7_600)
           ∷ mark an_announcement (at 5_600)

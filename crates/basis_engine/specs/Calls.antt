@@ -1,11 +1,9 @@
 -- Document 01, "Calls": what each does when it is accepted, for any state and any arguments.
-use Rattle.std.specs.Prelude.{ℕ, suc, cond, List, ltb, set}
-use Rattle.std.proofs.Math.Option.{Option, none, some}
+use Rattle.std.specs.Prelude.{ℕ, suc, cond, List, ltb, set, Option, None, Some}
 use Rattle.basis.specs.Frame.{probe, announcement, frame_of}
 use Rattle.basis.specs.declared.Ipv4Address.{Ipv4Address}
 use Rattle.basis.specs.declared.Setup.{Setup}
 use Rattle.basis.specs.declared.Time.{Time}
-use Rattle.basis.specs.declared.Moment.TheVariants.{Never, At}
 use Rattle.basis.specs.declared.Frame.{Frame}
 use Rattle.basis.specs.declared.Stage.{Stage}
 use Rattle.basis.specs.declared.Stage.TheVariants.{Free, Probing, Announced, Settled}
@@ -34,11 +32,11 @@ renewed s time records = changed s time s.asked s.conflicts records
 -- "Only the latest time changes": a tick with nothing due, and a packet that is no conflict
 -- (readings accepted-sets-time, none-has-no-slot).
 abbrev pub nothing : Interface → Time → Outcome
-nothing s time = record { kind = Nothing; slot = none; state = renewed s time s.records; frame = none }
+nothing s time = record { kind = Nothing; slot = None; state = renewed s time s.records; frame = None }
 
 -- Fresh: "It makes a new interface."
 unfoldable pub fresh_outcome : Setup → Outcome
-fresh_outcome setup = record { kind = Fresh; slot = none; state = new_interface setup; frame = none }
+fresh_outcome setup = record { kind = Fresh; slot = None; state = new_interface setup; frame = None }
 
 -- Ask: "takes the lowest free slot, probing with none sent, deadline time + draw mod 1,001. This time becomes that of the
 -- latest request." (reading request-is-an-ask)
@@ -51,9 +49,9 @@ ask_outcome s time address policy draw =
     record {
       kind = Taken;
       slot = lowest is_free s.records;
-      state = changed s time (At time) s.conflicts
+      state = changed s time (Some time) s.conflicts
           (put_at s.records (lowest is_free s.records) (new_claim (timing_of s.setup) time address policy draw));
-      frame = none;
+      frame = None;
     }
 
 -- Tick, the frame that is due at a stage: probes, "then the first announcement", "then the second". A free or settled record has
@@ -63,14 +61,14 @@ pub record DueFrame : Type 0 where
   pub frame : Option Frame
 
 abbrev pub due_frame_at : Timing → Setup → Ipv4Address → Stage → DueFrame
-due_frame_at row setup address Free = record { kind = Nothing; frame = none }
+due_frame_at row setup address Free = record { kind = Nothing; frame = None }
 due_frame_at row setup address (Probing sent deadline) =
     cond (ltb sent row.probe_num)
-    (record { kind = Probe; frame = some (probe (sender_of setup) address) })
-    (record { kind = Announce; frame = some (announcement (sender_of setup) address) })
+    (record { kind = Probe; frame = Some (probe (sender_of setup) address) })
+    (record { kind = Announce; frame = Some (announcement (sender_of setup) address) })
 due_frame_at row setup address (Announced deadline conflict) =
-    record { kind = Announce; frame = some (announcement (sender_of setup) address) }
-due_frame_at row setup address (Settled conflict) = record { kind = Nothing; frame = none }
+    record { kind = Announce; frame = Some (announcement (sender_of setup) address) }
+due_frame_at row setup address (Settled conflict) = record { kind = Nothing; frame = None }
 
 unfoldable pub due_frame : Timing → Setup → Record → DueFrame
 due_frame row setup r = due_frame_at row setup r.address r.stage
@@ -87,7 +85,7 @@ stage_after row time draw Free = Free
 stage_after row time draw (Probing sent deadline) =
     cond (ltb sent row.probe_num)
     (Probing (suc sent) (after time (delay row (suc sent) draw)))
-    (Announced (after time row.announce_interval) Never)
+    (Announced (after time row.announce_interval) None)
 stage_after row time draw (Announced deadline conflict) = Settled conflict
 stage_after row time draw (Settled conflict) = Settled conflict
 
@@ -95,14 +93,14 @@ abbrev pub served_as : Interface → Time → ℕ → Record → DueFrame → St
 served_as s time slot r due stage =
     record {
       kind = due.kind;
-      slot = some slot;
+      slot = Some slot;
       state = renewed s time (set s.records slot (with_stage r stage));
       frame = due.frame;
     }
 
 abbrev pub serve : Interface → Time → ℕ → Option ℕ → Outcome
-serve s time draw none = nothing s time
-serve s time draw (some slot) =
+serve s time draw None = nothing s time
+serve s time draw (Some slot) =
     served_as s time slot (record_at s.records slot)
     (due_frame (timing_of s.setup) s.setup (record_at s.records slot))
     (stage_after (timing_of s.setup) time draw (record_at s.records slot).stage)
@@ -116,7 +114,7 @@ abbrev pub resolve : Interface → Time → ℕ → Record → Resolution → Ou
 resolve s time slot r chosen =
     record {
       kind = resolution_kind chosen;
-      slot = some slot;
+      slot = Some slot;
       state = changed s time s.asked (count_up (timing_of s.setup) s.conflicts)
           (set s.records slot (record_after chosen time r));
       frame = defence s.setup r chosen;
@@ -127,8 +125,8 @@ abbrev pub unconcerned : Interface → Time → Frame → Outcome
 unconcerned s time f = nothing s time
 
 abbrev pub meet : Interface → Time → Frame → Option ℕ → Outcome
-meet s time f none = unconcerned s time f
-meet s time f (some slot) =
+meet s time f None = unconcerned s time f
+meet s time f (Some slot) =
     resolve s time slot (record_at s.records slot) (resolution (timing_of s.setup) time (record_at s.records slot))
 
 -- Packet: "at most one record can be concerned" in a sound state (`one_concerned` in proofs/ConflictLaws.antt), so the lowest
@@ -141,7 +139,7 @@ unfoldable pub drop_outcome : Interface → Time → ℕ → Outcome
 drop_outcome s time slot =
     record {
       kind = Dropped;
-      slot = some slot;
+      slot = Some slot;
       state = renewed s time (set s.records slot free_record);
-      frame = none;
+      frame = None;
     }

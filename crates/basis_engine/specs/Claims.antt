@@ -1,15 +1,12 @@
 -- Document 01, "The histories of demand 3": the words of demand 3, "read from the accepted calls, their arguments and answers,
 -- never from the records". Nothing here takes a state.
-use Rattle.std.specs.Prelude.{ℕ, ◌+◌, Bool, true, false, cond, not, ◌&&◌, ◌||◌, List, [], ◌∷◌, map, leb, eqb, length}
-use Rattle.std.proofs.Math.Option.{Option, none, some}
+use Rattle.std.specs.Prelude.{ℕ, ◌+◌, Bool, true, false, cond, not, ◌&&◌, ◌||◌, List, [], ◌∷◌, map, leb, eqb, length, Option, None, Some}
 use Rattle.basis.specs.Answers.{Report, refused, accepted, Accepted, HandedOut, hands_nothing, hands_due, hands_defence, handed_out_by}
 use Rattle.basis.specs.Frame.{frame_of}
 use Rattle.basis.specs.declared.Ipv4Address.{Ipv4Address}
 use Rattle.basis.specs.declared.Setup.{Setup}
 use Rattle.basis.specs.declared.Call.{Call}
 use Rattle.basis.specs.declared.Time.{Time}
-use Rattle.basis.specs.declared.Moment.{Moment}
-use Rattle.basis.specs.declared.Moment.TheVariants.{Never, At}
 use Rattle.basis.specs.declared.Frame.{Frame}
 use Rattle.basis_engine.specs.Timing.{Timing, timing_of, is_within}
 use Rattle.basis_engine.specs.Slots.{is_just}
@@ -66,11 +63,11 @@ abbrev pub is_in_use : List Mark → Bool
 is_in_use marks = is_any (times_of an_announcement marks)
 
 -- "This claim's previous conflict."
-abbrev pub latest : List ℕ → Moment
-latest [] = Never
-latest (t ∷ earlier) = At (record { 0 = t })
+abbrev pub latest : List ℕ → Option Time
+latest [] = None
+latest (t ∷ earlier) = Some (record { 0 = t })
 
-abbrev pub last_conflict : List Mark → Moment
+abbrev pub last_conflict : List Mark → Option Time
 last_conflict marks = latest (times_of a_conflict marks)
 
 -- "In use it ends it under policy 1, and under policy 2 if this claim's previous conflict was less than 10,000 ms earlier:
@@ -166,8 +163,8 @@ claims_of setup (e ∷ earlier) = claims_by setup e e.report (claims_of setup ea
 
 -- The latest claim on an address.
 unfoldable pub latest_on : Ipv4Address → List Claim → Option Claim
-latest_on address [] = none
-latest_on address (c ∷ earlier) = cond (is_on address c) (some c) (latest_on address earlier)
+latest_on address [] = None
+latest_on address (c ∷ earlier) = cond (is_on address c) (Some c) (latest_on address earlier)
 
 -- "The tenth conflict is counted over all claims": the conflicts of all claims, and the times of the asks that were accepted
 -- after the tenth, the latest first.

@@ -1,12 +1,9 @@
 -- Document 01, "Packet": what is a conflict, and what it does to a record.
-use Rattle.std.specs.Prelude.{ℕ, suc, Bool, false, cond, not, ◌&&◌, ◌||◌, eqb}
-use Rattle.std.proofs.Math.Option.{Option, none, some}
+use Rattle.std.specs.Prelude.{ℕ, suc, Bool, false, cond, not, ◌&&◌, ◌||◌, eqb, Option, None, Some}
 use Rattle.basis.specs.Frame.{announcement}
 use Rattle.basis.specs.declared.Ipv4Address.{Ipv4Address}
 use Rattle.basis.specs.declared.Setup.{Setup}
 use Rattle.basis.specs.declared.Time.{Time}
-use Rattle.basis.specs.declared.Moment.{Moment}
-use Rattle.basis.specs.declared.Moment.TheVariants.{At}
 use Rattle.basis.specs.declared.Frame.{Frame}
 use Rattle.basis.specs.declared.Stage.{Stage}
 use Rattle.basis.specs.declared.Stage.TheVariants.{Free, Probing, Announced, Settled}
@@ -48,7 +45,7 @@ count_up row count = cond (eqb count row.max_conflicts) count (suc count)
 
 -- "A usable one goes by policy (section 2.4): 1, lost; 2, defend if no conflict was seen before in this use or the last seen was 10,000 ms
 -- ago or more, else lost; 3, the same but 'kept' without a frame in place of lost."
-abbrev pub by_policy : Timing → ℕ → Time → Moment → Resolution
+abbrev pub by_policy : Timing → ℕ → Time → Option Time → Resolution
 by_policy row policy now last =
     cond (eqb policy 1) Lose
     (cond (not (is_within row.defend_interval now last)) Defend
@@ -68,8 +65,8 @@ resolution row now r = resolution_at row r.policy now r.stage
 abbrev pub seen_at : Time → Stage → Stage
 seen_at now Free = Free
 seen_at now (Probing sent deadline) = Probing sent deadline
-seen_at now (Announced deadline conflict) = Announced deadline (At now)
-seen_at now (Settled conflict) = Settled (At now)
+seen_at now (Announced deadline conflict) = Announced deadline (Some now)
+seen_at now (Settled conflict) = Settled (Some now)
 
 -- What each resolution leaves of the record, the frame that it sends, and the kind that is reported. "The slot is free at once."
 abbrev pub record_after : Resolution → Time → Record → Record
@@ -78,9 +75,9 @@ record_after Defend now r = with_stage r (seen_at now r.stage)
 record_after Keep now r = with_stage r (seen_at now r.stage)
 
 abbrev pub defence : Setup → Record → Resolution → Option Frame
-defence setup r Lose = none
-defence setup r Defend = some (announcement (sender_of setup) r.address)
-defence setup r Keep = none
+defence setup r Lose = None
+defence setup r Defend = Some (announcement (sender_of setup) r.address)
+defence setup r Keep = None
 
 abbrev pub resolution_kind : Resolution → Kind
 resolution_kind Lose = Kind.Lost

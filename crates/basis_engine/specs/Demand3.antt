@@ -1,14 +1,12 @@
 -- Demand 3, the whole of it as one claim over every history.
-use Rattle.std.specs.Prelude.{ℕ, ◌+◌, ◌-◌, ◌/◌, ◌≤◌, ◌≡◌, Bool, true, false, cond, ◌&&◌, List, [], ◌∷◌, ◌++◌, map, ◌↔◌, leb, length}
-use Rattle.std.proofs.Math.Option.{Option, none, some}
-use Rattle.basis.specs.Answers.{Report, refused, accepted, Accepted, answer_report}
+use Rattle.std.specs.Prelude.{ℕ, ◌+◌, ◌-◌, ◌/◌, ◌≤◌, ◌≡◌, Bool, true, false, cond, ◌&&◌, List, [], ◌∷◌, ◌++◌, map, ◌↔◌, leb, length, Option, None, Some}
+use Rattle.basis.specs.Answers.{Answer, Report, refused, accepted, Accepted, answer_report}
 use Rattle.basis.specs.declared.Ipv4Address.{Ipv4Address}
 use Rattle.basis.specs.declared.Setup.{Setup}
 use Rattle.basis.specs.declared.Call.{Call}
 use Rattle.basis.specs.declared.Time.{Time}
 use Rattle.basis.specs.declared.Record.{Record}
 use Rattle.basis.specs.declared.Interface.{Interface}
-use Rattle.basis.specs.declared.Answer.{Answer}
 use Rattle.basis_engine.specs.Timing.{Timing, timing_of}
 use Rattle.basis_engine.specs.Slots.{any}
 use Rattle.basis_engine.specs.Interface.{holds, is_usable_stage, new_interface}
@@ -105,8 +103,8 @@ pub record WentThrough (row : Timing) (c : Claim) : Type 0 where
 
 -- There was an accepted ask on the address, and the latest one went through.
 abbrev pub LatestWentThrough : Timing → Option Claim → Type 0
-LatestWentThrough row none = ⊥
-LatestWentThrough row (some c) = WentThrough row c
+LatestWentThrough row None = ⊥
+LatestWentThrough row (Some c) = WentThrough row c
 
 -- What holds of each element of a list.
 abbrev pub Each : {A : Type 0} → (A → Type 0) → List A → Type 0

@@ -1,13 +1,11 @@
 -- Document 01, "The interface and its four records".
-use Rattle.std.specs.Prelude.{ℕ, ◌+◌, ◌/◌, ◌%◌, ◌^◌, Bool, true, false, not, ◌&&◌, ◌||◌, List, [], ◌∷◌, leb, eqb}
+use Rattle.std.specs.Prelude.{ℕ, ◌+◌, ◌/◌, ◌%◌, ◌^◌, Bool, true, false, not, ◌&&◌, ◌||◌, List, [], ◌∷◌, leb, eqb, Option, Some, None}
 use Rattle.basis.specs.Times.{last_time}
 use Rattle.basis.specs.Addresses.{is_hardware}
 use Rattle.basis.specs.declared.Ipv4Address.{Ipv4Address}
 use Rattle.basis.specs.declared.HardwareAddress.{HardwareAddress}
 use Rattle.basis.specs.declared.Setup.{Setup}
 use Rattle.basis.specs.declared.Time.{Time}
-use Rattle.basis.specs.declared.Moment.{Moment}
-use Rattle.basis.specs.declared.Moment.TheVariants.{Never, At}
 use Rattle.basis.specs.declared.Stage.{Stage}
 use Rattle.basis.specs.declared.Stage.TheVariants.{Free, Probing, Announced, Settled}
 use Rattle.basis.specs.declared.Record.{Record}
@@ -66,9 +64,9 @@ is_usable_stage (Announced deadline conflict) = true
 is_usable_stage (Settled conflict) = true
 
 -- "A request time and every conflict time are no later than the latest time."
-abbrev pub is_past : Time → Moment → Bool
-is_past latest Never = true
-is_past latest (At time) = leb time.0 latest.0
+abbrev pub is_past : Time → Option Time → Bool
+is_past latest None = true
+is_past latest (Some time) = leb time.0 latest.0
 
 -- "Each deadline is at most the latest time plus 2,000": no delay is longer (reading deadline-above-range).
 abbrev pub longest_delay : ℕ
@@ -113,7 +111,7 @@ new_interface setup =
     record {
       setup = setup;
       latest = record { 0 = 0 };
-      asked = Never;
+      asked = None;
       conflicts = 0;
       records = free_record ∷ free_record ∷ free_record ∷ free_record ∷ [];
     }
@@ -124,6 +122,6 @@ zeros = new_interface (record { hardware = record { 0 = 0 } })
 
 -- The state after an accepted call but fresh, with this latest time, time of the latest ask, count and records. What was chosen
 -- at fresh is kept.
-abbrev pub changed : Interface → Time → Moment → ℕ → List Record → Interface
+abbrev pub changed : Interface → Time → Option Time → ℕ → List Record → Interface
 changed s latest asked conflicts records =
     record { setup = s.setup; latest = latest; asked = asked; conflicts = conflicts; records = records }

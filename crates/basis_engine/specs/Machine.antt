@@ -1,12 +1,10 @@
 -- "The plain machine is the rules under 'Calls' and 'Refusal numbers'": what a call reports, the state and the out buffer that
 -- it leaves, for any state and any call. The promise of the public calls is that they give just that.
-use Rattle.std.specs.Prelude.{ℕ, ◌≡◌, List, Bool, true, false, length}
-use Rattle.std.proofs.Math.Option.{Option, none, some}
-use Rattle.basis.specs.Answers.{Report, Accepted, reported, leaves, answer_report}
+use Rattle.std.specs.Prelude.{ℕ, ◌≡◌, List, Bool, true, false, length, Option, None, Some}
+use Rattle.basis.specs.Answers.{Answer, Report, Accepted, reported, leaves, answer_report}
 use Rattle.basis.specs.Frame.{frame_put}
 use Rattle.basis.specs.declared.Frame.{Frame}
 use Rattle.basis.specs.declared.Interface.{Interface}
-use Rattle.basis.specs.declared.Answer.{Answer}
 use Rattle.basis.specs.declared.Call.{Call}
 use Rattle.basis_engine.specs.Deadlines.{smallest_deadline}
 use Rattle.basis_engine.specs.Calls.{Outcome, fresh_outcome, ask_outcome, tick_outcome, packet_outcome, drop_outcome}
@@ -30,8 +28,8 @@ outcome_of s (Call.Drop time slot) bytes = drop_outcome s time slot
 
 -- "A frame goes to the first 28 bytes of the out buffer, the rest untouched; without a frame all of it is untouched."
 abbrev pub handed_out : Option Frame → List ℕ → List ℕ
-handed_out none out = out
-handed_out (some f) out = frame_put f out
+handed_out None out = out
+handed_out (Some f) out = frame_put f out
 
 -- "Every accepted call reports a kind, the slot concerned or none, and the smallest deadline left or none."
 abbrev pub accepted_as : Outcome → Accepted

@@ -1,7 +1,6 @@
 -- Document 01, "Refusal numbers": of each call its rows of the table, in the table's order, for any state and any arguments
 -- (readings lowest-number, whole-numbers).
-use Rattle.std.specs.Prelude.{ℕ, Bool, not, ◌&&◌, ◌||◌, List, ltb, eqb}
-use Rattle.std.proofs.Math.Option.{Option, none}
+use Rattle.std.specs.Prelude.{ℕ, Bool, not, ◌&&◌, ◌||◌, List, ltb, eqb, Option, None}
 use Rattle.basis.specs.Times.{last_time}
 use Rattle.basis.specs.Answers.{◌if◌else◌}
 use Rattle.basis.specs.Frame.{frame_length, read_refusal}
@@ -26,7 +25,7 @@ abbrev pub state_time_and_room : Interface → Time → ℕ → Option ℕ → O
 state_time_and_room s time room others = state_and_time s time (5 if ltb room frame_length else others)
 
 unfoldable pub fresh_refusal : Setup → Option ℕ
-fresh_refusal setup = 2 if not (is_sound_setup setup) else none
+fresh_refusal setup = 2 if not (is_sound_setup setup) else None
 
 -- 12: "count is 10, and a request was accepted less than 60,000 ms ago" (readings request-is-an-ask, ten-conflicts-no-ask).
 abbrev pub is_too_soon : Interface → Time → Bool
@@ -41,10 +40,10 @@ ask_refusal s time address policy draw =
     9 if not (is_policy policy) else
     10 if is_held address s.records else
     11 if is_none (lowest is_free s.records) else
-    12 if is_too_soon s time else none)
+    12 if is_too_soon s time else None)
 
 unfoldable pub tick_refusal : Interface → Time → ℕ → ℕ → Option ℕ
-tick_refusal s time draw room = state_time_and_room s time room none
+tick_refusal s time draw room = state_time_and_room s time room None
 
 -- 6 and 7 are those of a read.
 unfoldable pub packet_refusal : Interface → Time → List ℕ → ℕ → Option ℕ
@@ -52,4 +51,4 @@ packet_refusal s time bytes room = state_time_and_room s time room (read_refusal
 
 -- 13: "slot above 3, or free". A slot above the last has the free record.
 unfoldable pub drop_refusal : Interface → Time → ℕ → Option ℕ
-drop_refusal s time slot = state_and_time s time (13 if ltb 3 slot || is_free (record_at s.records slot) else none)
+drop_refusal s time slot = state_and_time s time (13 if ltb 3 slot || is_free (record_at s.records slot) else None)

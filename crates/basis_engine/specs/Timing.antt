@@ -1,9 +1,7 @@
 -- Document 01, "Times and counts that are fixed".
-use Rattle.std.specs.Prelude.{ℕ, ◌+◌, ◌-◌, ◌%◌, Bool, false, ltb}
+use Rattle.std.specs.Prelude.{ℕ, ◌+◌, ◌-◌, ◌%◌, Bool, false, ltb, Option, Some, None}
 use Rattle.basis.specs.declared.Setup.{Setup}
 use Rattle.basis.specs.declared.Time.{Time}
-use Rattle.basis.specs.declared.Moment.{Moment}
-use Rattle.basis.specs.declared.Moment.TheVariants.{Never, At}
 
 -- "Section 1.1 of RFC 5227, in ms where they are times." That two announcements are sent is said by the stages after probing,
 -- announced once and settled; demand 3 bounds by the number.
@@ -50,6 +48,6 @@ abbrev pub after : Time → ℕ → Time
 after time ms = record { 0 = time.0 + ms }
 
 -- Whether something happened less than so many ms ago.
-abbrev pub is_within : ℕ → Time → Moment → Bool
-is_within ms now Never = false
-is_within ms now (At time) = ltb now.0 (time.0 + ms)
+abbrev pub is_within : ℕ → Time → Option Time → Bool
+is_within ms now None = false
+is_within ms now (Some time) = ltb now.0 (time.0 + ms)

@@ -3,7 +3,7 @@ use Prim.Native.Nat.{ℕ, ◌<◌, ◌≤◌, ◌^◌}
 use mathlib.Core.Path.{◌≡◌, refl, sym, ap, ap₂, subst, ◌∙◌}
 use mathlib.Core.Bool.{true, false, true≢false}
 use mathlib.Core.List.{List, [], ◌∷◌, ◌++◌, map}
-use mathlib.Core.Option.{none, some}
+use Rattle.std.specs.Prelude.{None, Some}
 use native.Mathlib.Omega.{arith}
 use lib.Dec.{eqb, ltb, lit<, lit≤}
 use lib.ListN.{length}
@@ -20,7 +20,7 @@ use Rattle.basis_lines.proofs.NumberLaws.{foreign_in_number, decimal_digits, num
 use Rattle.basis_lines.proofs.HexLaws.{bytes_of_small, number_as_bytes}
 
 -- One number that has a foreign byte makes all of them none.
-foreign_in_each : (b : ℕ) → is_digit b ≡ false → {ps : List (List ℕ)} → OneHas b ps → (most : ℕ) → each (number most) ps ≡ none
+foreign_in_each : (b : ℕ) → is_digit b ≡ false → {ps : List (List ℕ)} → OneHas b ps → (most : ℕ) → each (number most) ps ≡ None
 unfolding each
 foreign_in_each b foreign (first front back ps) most = rw (foreign_in_number most front b back foreign)
 foreign_in_each b foreign (later {p = p} has) most =
@@ -28,7 +28,7 @@ foreign_in_each b foreign (later {p = p} has) most =
 
 -- A byte that is neither a digit nor a dot, at any place, makes the text none.
 pub foreign_in_address : (front : List ℕ) (b : ℕ) (back : List ℕ) → is_digit b ≡ false → eqb b dot ≡ false →
-    address (front ++ (b ∷ back)) ≡ none
+    address (front ++ (b ∷ back)) ≡ None
 unfolding address
 foreign_in_address front b back foreign other = rw (foreign_in_each b foreign (byte_in_parts dot front b back other))
 
@@ -52,7 +52,7 @@ all_lack_lem [] = refl
 all_lack_lem (b ∷ bs) = rw (digits_lack dot refl (decimal b) (decimal_digits b), all_lack_lem bs)
 
 each_printed : (most : ℕ) → 255 ≤ most → most < 2 ^ 64 → (bs : List ℕ) → are_bytes bs ≡ true →
-    each (number most) (map decimal bs) ≡ some bs
+    each (number most) (map decimal bs) ≡ Some bs
 unfolding each
 each_printed most all fit [] small = refl
 each_printed most all fit (b ∷ bs) small =
@@ -62,7 +62,7 @@ each_printed most all fit (b ∷ bs) small =
 abbrev ArePrinted : List (List ℕ) → List ℕ → Type 0
 ArePrinted ps bs = (ps ≡ map decimal bs) × (are_bytes bs ≡ true)
 
-each_exact : (most : ℕ) → most < 256 → (ps : List (List ℕ)) (bs : List ℕ) → each (number most) ps ≡ some bs → ArePrinted ps bs
+each_exact : (most : ℕ) → most < 256 → (ps : List (List ℕ)) (bs : List ℕ) → each (number most) ps ≡ Some bs → ArePrinted ps bs
 unfolding each
 each_exact most byte [] bs e = let is : [] ≡ bs = cc in subst (ArePrinted []) is (refl, refl)
 each_exact most byte (p ∷ ps) bs e =
@@ -76,7 +76,7 @@ each_exact most byte (p ∷ ps) bs e =
 
 -- "Four such numbers up to 255, parted by dots."
 pub address_of_four : (four : List ℕ) → are_bytes four ≡ true → length four ≡ 4 →
-    address (dotted four) ≡ some (record { 0 = number_of four })
+    address (dotted four) ≡ Some (record { 0 = number_of four })
 unfolding address
 address_of_four [] small count = absurd (omega arith)
 address_of_four (b ∷ bs) small count =
@@ -87,12 +87,12 @@ address_of_four (b ∷ bs) small count =
     )
 
 -- An address is read from its four bytes so printed, and from nothing else.
-pub address_printed : (ip : Ipv4Address) → ip.0 < 2 ^ 32 → address (dotted (bytes_of 4 ip.0)) ≡ some ip
+pub address_printed : (ip : Ipv4Address) → ip.0 < 2 ^ 32 → address (dotted (bytes_of 4 ip.0)) ≡ Some ip
 address_printed ip fits =
     address_of_four (bytes_of 4 ip.0) (bytes_of_small 4 ip.0) refl
-    ∙ ap (λ (n : ℕ). some (record { 0 = n })) (number_bytes_fits 4 ip.0 fits)
+    ∙ ap (λ (n : ℕ). Some (record { 0 = n })) (number_bytes_fits 4 ip.0 fits)
 
-pub address_exact : (text : List ℕ) (ip : Ipv4Address) → address text ≡ some ip →
+pub address_exact : (text : List ℕ) (ip : Ipv4Address) → address text ≡ Some ip →
     (text ≡ dotted (bytes_of 4 ip.0)) × (ip.0 < 2 ^ 32)
 unfolding address
 address_exact text ip e =

@@ -3,7 +3,7 @@ use Prim.Native.Nat.{ℕ, ◌≤◌}
 use mathlib.Core.Path.{◌≡◌, refl}
 use mathlib.Core.Bool.{true}
 use mathlib.Core.List.{List}
-use mathlib.Core.Option.{Option, none, some}
+use Rattle.std.specs.Prelude.{Option, None, Some}
 use native.Mathlib.Omega.{arith}
 use lib.ListN.{length, length-append}
 use lib.Pow.{are_bytes}
@@ -23,10 +23,10 @@ use Rattle.basis_lines.proofs.NumberLaws.{number_printed, decimal_at_most}
 use Rattle.basis_lines.proofs.HexLaws.{remainder_small, hex_length, bytes_printed}
 
 -- "`-` for none": a number printed reads back, and so does a frame; what stands for none reads as none.
-pub number_text_reads : (n : ℕ) → n ≤ largest → number largest (number_text (some n)) ≡ some n
+pub number_text_reads : (n : ℕ) → n ≤ largest → number largest (number_text (Some n)) ≡ Some n
 number_text_reads n fits = number_printed largest n fits (omega arith)
 
-pub no_number_reads : number largest (number_text none) ≡ none
+pub no_number_reads : number largest (number_text None) ≡ None
 unfolding number are_digits
 no_number_reads = refl
 
@@ -34,21 +34,21 @@ frame_small : (f : Frame) → are_bytes (frame_bytes f) ≡ true
 unfolding frame_bytes
 frame_small f = simp remainder_small
 
-pub frame_text_reads : (f : Frame) → bytes (frame_text (some f)) ≡ some (frame_bytes f)
+pub frame_text_reads : (f : Frame) → bytes (frame_text (Some f)) ≡ Some (frame_bytes f)
 frame_text_reads f = bytes_printed (frame_bytes f) (frame_small f) (rw (frame_length_lem f) (omega arith))
 
-pub no_frame_reads : bytes (frame_text none) ≡ none
+pub no_frame_reads : bytes (frame_text None) ≡ None
 unfolding bytes hex_bytes
 no_frame_reads = refl
 
 -- No answer is longer than `longest_answer`, for any bytes and any state.
 number_at_most : (n : Option ℕ) → length (number_text n) ≤ 20
-number_at_most none = omega arith
-number_at_most (some n) = decimal_at_most n
+number_at_most None = omega arith
+number_at_most (Some n) = decimal_at_most n
 
 frame_at_most : (frame : Option Frame) → length (frame_text frame) ≤ 56
-frame_at_most none = omega arith
-frame_at_most (some frame) = rw (hex_length, frame_length_lem frame) (omega arith)
+frame_at_most None = omega arith
+frame_at_most (Some frame) = rw (hex_length, frame_length_lem frame) (omega arith)
 
 pub refused_at_most : (n : ℕ) → length (refused_text n) ≤ longest_answer
 unfolding refused_text
@@ -75,8 +75,8 @@ unfolding line_answer
 longest_answer_lem s line = go (call_of line)
   where
     go : (call : Option Invocation) → length (answer_to s call).text ≤ longest_answer
-    go none = refused_at_most 14
-    go (some i) = report_at_most (result_of s i.call i.bytes i.lent).report (outcome_of s i.call i.bytes).frame
+    go None = refused_at_most 14
+    go (Some i) = report_at_most (result_of s i.call i.bytes i.lent).report (outcome_of s i.call i.bytes).frame
 
 -- A line leaves a sound state sound.
 pub line_stays_sound : (s : Interface) (line : List ℕ) → is_sound s ≡ true → is_sound (line_answer s line).state ≡ true
@@ -84,5 +84,5 @@ unfolding line_answer
 line_stays_sound s line sound = go (call_of line)
   where
     go : (call : Option Invocation) → is_sound (answer_to s call).state ≡ true
-    go none = sound
-    go (some i) = stays_sound s i.call i.bytes i.lent sound
+    go None = sound
+    go (Some i) = stays_sound s i.call i.bytes i.lent sound

@@ -3,7 +3,7 @@ use Prim.Native.Nat.{ℕ, suc}
 use mathlib.Core.Path.{◌≡◌, refl, sym, ap, ◌∙◌}
 use mathlib.Core.Bool.{Bool, true, false, not, cond, ◌&&◌, ◌||◌, and-false, true≢false}
 use mathlib.Core.List.{List, [], ◌∷◌, ◌++◌, map}
-use mathlib.Core.Option.{Option, none}
+use Rattle.std.specs.Prelude.{Option, None}
 use native.Mathlib.Omega.{arith}
 use lib.Dec.{eqb, leb}
 use lib.ListN.{length}
@@ -48,20 +48,20 @@ pub data OneStray : List Alphabet → List (List ℕ) → Type 0 where
       OneStray more fields → OneStray (alphabet ∷ more) (field ∷ fields)
 
 -- What such a field is read as.
-no_address : (front : List ℕ) (b : ℕ) (back : List ℕ) → is_in dotted b ≡ false → address (front ++ (b ∷ back)) ≡ none
+no_address : (front : List ℕ) (b : ℕ) (back : List ℕ) → is_in dotted b ≡ false → address (front ++ (b ∷ back)) ≡ None
 no_address front b back e =
     let (digit, other) = neither (is_digit b) (eqb b dot) e in foreign_in_address front b back digit other
 
-no_hex : (b : ℕ) → is_in hex b ≡ false → hex_digit b ≡ none
+no_hex : (b : ℕ) → is_in hex b ≡ false → hex_digit b ≡ None
 no_hex b e = let (digit, letter) = neither (is_digit b) (leb 97 b && leb b 102) e in rw (digit, letter)
 
 -- A reading whose next one is none.
-unread_next : {A B : Type 0} (o : Option A) → ◌≡◌ {A = Option B} (o then λ a. none) none
+unread_next : {A B : Type 0} (o : Option A) → ◌≡◌ {A = Option B} (o then λ a. None) None
 unread_next o = then_none o _ (λ a. refl)
 
 -- Such fields after the form's word make no call, whatever the others are and however many.
 pub stray_in_form : {word : List ℕ} {alphabets : List Alphabet} {fields : List (List ℕ)} → Form word alphabets →
-    OneStray alphabets fields → call_in (word ∷ fields) ≡ none
+    OneStray alphabets fields → call_in (word ∷ fields) ≡ None
 unfolding call_in
 stray_in_form fresh (here front b back e) = simp (foreign_in_hardware front b back (no_hex b e), cond_none)
 stray_in_form ask (here front b back e) = simp (foreign_in_number largest front b back e, cond_none)
@@ -82,7 +82,7 @@ stray_in_form tick (there {field = field} (there {fields = fields} none_left)) =
 stray_in_form packet (there {field = field} (there {fields = fields} none_left)) = elim none_left [ ]
 stray_in_form drop (there {field = field} (there {fields = fields} none_left)) = elim none_left [ ]
 
-unread_line : (s : Interface) (line : List ℕ) → call_in (parts tab line) ≡ none → line_answer s line ≡ malformed s
+unread_line : (s : Interface) (line : List ℕ) → call_in (parts tab line) ≡ None → line_answer s line ≡ malformed s
 unfolding line_answer call_of
 unread_line s line e = rw (e, cond_none)
 
@@ -148,7 +148,7 @@ foreign_is_stray b foreign (later has) (alphabet ∷ more) e = there (foreign_is
 -- Fields of which one has a foreign byte, if they are a form's word and its count of others: one of those has the byte.
 no_call_of : {b : ℕ} {word w : List ℕ} {fields : List (List ℕ)} {alphabets : List Alphabet} → Foreign b →
     OneHas b (word ∷ fields) → Form w alphabets → same_bytes word w ≡ true →
-    eqb (suc (length fields)) (suc (length alphabets)) ≡ true → call_in (w ∷ fields) ≡ none
+    eqb (suc (length fields)) (suc (length alphabets)) ≡ true → call_in (w ∷ fields) ≡ None
 no_call_of {b = b} {w = w} foreign (first front back fields) form same count =
     let letters = ap are_letters (same_equal (front ++ (b ∷ back)) w same) ∙ word_letters form in
     absurd (true≢false (sym letters ∙ foreign_in_letters front b back foreign.no_letter))
@@ -157,13 +157,13 @@ no_call_of {b = b} {fields = fields} {alphabets = alphabets} foreign (later has)
     (foreign_is_stray b foreign has alphabets (omega (arith, eqb-true (suc (length fields)) (suc (length alphabets)) count)))
 
 -- A form passed over: its word is not there, or not its count of fields, or it makes no call.
-pass : (same counted : Bool) (call rest : Option Invocation) → (same ≡ true → counted ≡ true → cond counted call none ≡ none) →
-    rest ≡ none → cond (same && counted) call rest ≡ none
+pass : (same counted : Bool) (call rest : Option Invocation) → (same ≡ true → counted ≡ true → cond counted call None ≡ None) →
+    rest ≡ None → cond (same && counted) call rest ≡ None
 pass true true call rest unread none_left = unread refl refl
 pass true false call rest unread none_left = none_left
 pass false counted call rest unread none_left = none_left
 
-no_call : {b : ℕ} → Foreign b → (fields : List (List ℕ)) → OneHas b fields → call_in fields ≡ none
+no_call : {b : ℕ} → Foreign b → (fields : List (List ℕ)) → OneHas b fields → call_in fields ≡ None
 unfolding call_in
 no_call {b = b} foreign [] has = elim has [ ]
 no_call foreign (word ∷ fields) has =

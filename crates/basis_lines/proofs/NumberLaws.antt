@@ -3,7 +3,7 @@ use Prim.Native.Nat.{ℕ, zero, suc, ◌+◌, ◌-◌, ◌*◌, ◌/◌, ◌%◌
 use mathlib.Core.Path.{◌≡◌, refl, sym, ap, ◌∙◌}
 use mathlib.Core.Bool.{Bool, true, false, not, cond, ◌&&◌, ◌||◌, and_assoc, and-true, and-false, or-true}
 use mathlib.Core.List.{List, [], ◌∷◌, ◌++◌}
-use mathlib.Core.Option.{none, some}
+use Rattle.std.specs.Prelude.{None, Some}
 use native.Mathlib.Nat.{div-add-mod', div-lt_iff_lt-mul, mod-lt, pow-suc}
 use native.Mathlib.Omega.{arith}
 use lib.ListN.{length, length-append}
@@ -26,15 +26,15 @@ no_numeral [] e = cc
 no_numeral (b ∷ text) e = rw e
 
 pub foreign_in_number : (most : ℕ) (front : List ℕ) (b : ℕ) (back : List ℕ) → is_digit b ≡ false →
-    number most (front ++ (b ∷ back)) ≡ none
+    number most (front ++ (b ∷ back)) ≡ None
 unfolding number
 foreign_in_number most front b back e = rw (no_numeral (front ++ (b ∷ back)) (foreign_in_digits front b back e))
 
 -- Two of them: a plain space, and bytes C2 A0.
-space_unread : (front back : List ℕ) → number largest (front ++ (32 ∷ back)) ≡ none
+space_unread : (front back : List ℕ) → number largest (front ++ (32 ∷ back)) ≡ None
 space_unread front back = foreign_in_number largest front 32 back refl
 
-gap_unread : (front back : List ℕ) → number largest (front ++ (0xc2 ∷ 0xa0 ∷ back)) ≡ none
+gap_unread : (front back : List ℕ) → number largest (front ++ (0xc2 ∷ 0xa0 ∷ back)) ≡ None
 gap_unread front back = foreign_in_number largest front 0xc2 (0xa0 ∷ back) refl
 
 -- Digits.
@@ -206,7 +206,7 @@ largest_value : (largest ≡ 2 ^ 64 - 1) × (largest_draw ≡ 2 ^ 32 - 1)
 largest_value = (refl, refl)
 
 -- Why a text was read.
-number_read : (most : ℕ) (text : List ℕ) (n : ℕ) → number most text ≡ some n → Stands n text × (n ≤ most)
+number_read : (most : ℕ) (text : List ℕ) (n : ℕ) → number most text ≡ Some n → Stands n text × (n ≤ most)
 unfolding number
 number_read most text n e =
     let read = only_some (is_numeral text && leb (value_after 0 text) most) (value_after 0 text) n e in
@@ -214,17 +214,17 @@ number_read most text n e =
     let small = leb-true (value_after 0 text) most both.1 in
     (record { numeral = both.0; value = read.1 }, omega (arith, read.1))
 
-pub number_at_most : (most : ℕ) (text : List ℕ) (n : ℕ) → number most text ≡ some n → n ≤ most
+pub number_at_most : (most : ℕ) (text : List ℕ) (n : ℕ) → number most text ≡ Some n → n ≤ most
 number_at_most most text n e = (number_read most text n e).1
 
 -- There is one text for each number: what is printed for it is read, and nothing else is.
-pub number_printed : (most n : ℕ) → n ≤ most → most ≤ largest → number most (decimal n) ≡ some n
+pub number_printed : (most n : ℕ) → n ≤ most → most ≤ largest → number most (decimal n) ≡ Some n
 unfolding number
 number_printed most n small fits =
     let s = digits_stand 19 n (omega arith) in
     rw (s.numeral, s.value, le-leb n most small)
 
-pub number_exact : (most : ℕ) (text : List ℕ) (n : ℕ) → most ≤ largest → number most text ≡ some n → text ≡ decimal n
+pub number_exact : (most : ℕ) (text : List ℕ) (n : ℕ) → most ≤ largest → number most text ≡ Some n → text ≡ decimal n
 number_exact most text n fits e =
     let (s, small) = number_read most text n e in
     decimal_exact text s.numeral (omega (arith, s.value)) ∙ ap decimal s.value

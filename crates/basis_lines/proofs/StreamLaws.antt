@@ -228,7 +228,7 @@ module _ (st : Stream) (begun : List ℕ) (b : ℕ) (input : List ℕ) (room : �
   fair_line : eqb b newline ≡ true → is_full room ≡ false → (w : Work) →
       FairWork (after_line st begun) [] input (room_after st begun room) w →
       FairWork st begun (b ∷ input) room (afterwards (suc (length begun)) (ended_answer st begun).text w)
-  fair_line e some w next =
+  fair_line e spare w next =
       rw left
       (record {
         goes =
@@ -246,7 +246,7 @@ module _ (st : Stream) (begun : List ℕ) (b : ℕ) (input : List ℕ) (room : �
             (omega (
               arith,
               next.fits longest,
-              ltb-false room _ some,
+              ltb-false room _ spare,
               ended_at_most longest st.state st.skipping begun,
             ));
       })

@@ -4,7 +4,7 @@ use Prim.Native.Char.{code}
 use Prim.Native.String.{String, [] as end_of_text, ◌∷◌ as ◌∷ᵗ◌, ◌++◌}
 use mathlib.Core.Path.{◌≡◌, refl}
 use mathlib.Core.List.{List, [], ◌∷◌, map}
-use mathlib.Core.Option.{Option, none, some}
+use Rattle.std.specs.Prelude.{Option, None, Some}
 use Rattle.basis.specs.Answers.{kind_word}
 use Rattle.basis.specs.Frame.{frame_bytes, probe, announcement, frame_put}
 use Rattle.basis.specs.declared.Call.TheVariants as Call
@@ -85,12 +85,12 @@ edges_read :
     ∷ "drop\t0\t18446744073709551615"
     ∷ []
     )
-    ≡ some (made (Call.Fresh (record { hardware = record { 0 = 2 ^ 48 - 1 } })) [])
-    ∷ some (made (Call.Ask (record { 0 = 2 ^ 64 - 1 }) (record { 0 = 0xff000aff }) (2 ^ 64 - 1) (2 ^ 32 - 1)) [])
-    ∷ some (made (Call.Tick (record { 0 = 2 ^ 64 - 1 }) (2 ^ 32 - 1)) [])
-    ∷ some (made (Call.Packet (record { 0 = 0 })) [])
-    ∷ some (made (Call.Packet (record { 0 = 0 })) (0x09 ∷ 0xaf ∷ []))
-    ∷ some (made (Call.Drop (record { 0 = 0 }) (2 ^ 64 - 1)) [])
+    ≡ Some (made (Call.Fresh (record { hardware = record { 0 = 2 ^ 48 - 1 } })) [])
+    ∷ Some (made (Call.Ask (record { 0 = 2 ^ 64 - 1 }) (record { 0 = 0xff000aff }) (2 ^ 64 - 1) (2 ^ 32 - 1)) [])
+    ∷ Some (made (Call.Tick (record { 0 = 2 ^ 64 - 1 }) (2 ^ 32 - 1)) [])
+    ∷ Some (made (Call.Packet (record { 0 = 0 })) [])
+    ∷ Some (made (Call.Packet (record { 0 = 0 })) (0x09 ∷ 0xaf ∷ []))
+    ∷ Some (made (Call.Drop (record { 0 = 0 }) (2 ^ 64 - 1)) [])
     ∷ []
 unfolding calls_of codes call_of call_in parts are_digits value_after number each address hex_bytes bytes hardware
 edges_read = refl
@@ -107,6 +107,6 @@ malformed_lines =
     ∷ "packet\t1" ∷ "packet\t1\t0" ∷ "packet\t1\t0g" ∷ "packet\t1\t0A" ∷ "drop\t1\t18446744073709551616" ∷ "stop\t1\t0"
     ∷ []
 
-malformed_unread : calls_of malformed_lines ≡ map (λ (line : String). none) malformed_lines
+malformed_unread : calls_of malformed_lines ≡ map (λ (line : String). None) malformed_lines
 unfolding calls_of codes call_of call_in parts are_digits value_after number each address hex_bytes bytes hardware malformed_lines
 malformed_unread = refl

@@ -1,6 +1,5 @@
 -- "Output per line: `refused` and the number, or `ok`, kind, slot, next deadline, frame in hex, with `-` for none."
-use Rattle.std.specs.Prelude.{ℕ, Bool, List, [], ◌∷◌, ◌++◌, leb, length, drop}
-use Rattle.std.proofs.Math.Option.{Option, none, some}
+use Rattle.std.specs.Prelude.{ℕ, Bool, List, [], ◌∷◌, ◌++◌, leb, length, drop, Option, None, Some}
 use Rattle.basis.specs.Answers.{Report, refused, accepted, Accepted, kind_word, refusal_number}
 use Rattle.basis.specs.Frame.{frame_bytes}
 use Rattle.basis.specs.declared.Frame.{Frame}
@@ -22,12 +21,12 @@ abbrev pub dash : List ℕ
 dash = 45 ∷ []
 
 abbrev pub number_text : Option ℕ → List ℕ
-number_text none = dash
-number_text (some n) = decimal n
+number_text None = dash
+number_text (Some n) = decimal n
 
 abbrev pub frame_text : Option Frame → List ℕ
-frame_text none = dash
-frame_text (some frame) = hex_text (frame_bytes frame)
+frame_text None = dash
+frame_text (Some frame) = hex_text (frame_bytes frame)
 
 unfoldable pub refused_text : ℕ → List ℕ
 refused_text n = refused_word ++ (tab ∷ decimal n) ++ (newline ∷ [])
@@ -57,8 +56,8 @@ malformed s = record { text = refused_text (refusal_number LineMalformed); state
 
 -- What a call of a line, or none, comes to.
 abbrev pub answer_to : Interface → Option Invocation → Answered
-answer_to s none = malformed s
-answer_to s (some i) =
+answer_to s None = malformed s
+answer_to s (Some i) =
     record {
       text = report_text (result_of s i.call i.bytes i.lent).report (outcome_of s i.call i.bytes).frame;
       state = (result_of s i.call i.bytes i.lent).state;

@@ -1,6 +1,5 @@
 -- The parts of a text: "fields parted by one tab", an address's numbers "parted by dots". A text is a list of bytes.
-use Rattle.std.specs.Prelude.{ℕ, Bool, true, false, cond, List, [], ◌∷◌, eqb, get_or}
-use Rattle.std.proofs.Math.Option.{Option, none, some}
+use Rattle.std.specs.Prelude.{ℕ, Bool, true, false, cond, List, [], ◌∷◌, eqb, get_or, Option, None, Some}
 
 abbrev pub tab : ℕ
 tab = 9
@@ -27,11 +26,11 @@ first_part separator text = get_or (parts separator text) 0 []
 
 -- "Each read whole or refused whole": what a text stands for if it is in the form, else none.
 abbrev pub only : {A : Type 0} → Bool → A → Option A
-only true a = some a
-only false a = none
+only true a = Some a
+only false a = None
 
 -- A second reading that needs what a first one gave: none if either is.
 infixr 20 ◌then◌
 abbrev pub ◌then◌ : {A B : Type 0} → Option A → (A → Option B) → Option B
-none then next = none
-(some a) then next = next a
+None then next = None
+(Some a) then next = next a

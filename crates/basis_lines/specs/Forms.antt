@@ -1,6 +1,5 @@
 -- "Forms: `fresh` hardware; `ask` time address policy draw; `tick` time draw; `packet` time bytes; `drop` time slot."
-use Rattle.std.specs.Prelude.{ℕ, suc, Bool, cond, ◌&&◌, List, [], ◌∷◌, eqb, leb, length, get_or, replicate}
-use Rattle.std.proofs.Math.Option.{Option, none, some}
+use Rattle.std.specs.Prelude.{ℕ, suc, Bool, cond, ◌&&◌, List, [], ◌∷◌, eqb, leb, length, get_or, replicate, Option, None, Some}
 use Rattle.basis.specs.Bytes.{same_bytes}
 use Rattle.basis.specs.Frame.{frame_length}
 use Rattle.basis.specs.declared.Time.{Time}
@@ -33,7 +32,7 @@ abbrev pub is_form : List ℕ → ℕ → List (List ℕ) → Bool
 is_form word more fields = same_bytes (field 0 fields) word && eqb (length fields) (suc more)
 
 abbrev pub time : List ℕ → Option Time
-time text = number largest text then λ ms. some (record { 0 = ms })
+time text = number largest text then λ ms. Some (record { 0 = ms })
 
 -- A call as a replay makes it, with the bytes of a packet: it lends 28 bytes as the out buffer
 -- (reading replay-lends-28).
@@ -54,23 +53,23 @@ abbrev pub timed : List ℕ → ℕ → (Time → List (List ℕ) → Option Inv
 timed word more call = record { word = word; more = more; call = λ fields. time (field 1 fields) then λ t. call t fields }
 
 abbrev pub fresh_call : List (List ℕ) → Option Invocation
-fresh_call fields = hardware (field 1 fields) then λ own. some (made (Call.Fresh (record { hardware = own })) [])
+fresh_call fields = hardware (field 1 fields) then λ own. Some (made (Call.Fresh (record { hardware = own })) [])
 
 abbrev pub ask_at : Time → List (List ℕ) → Option Invocation
 ask_at t fields =
     address (field 2 fields) then λ wanted.
     number largest (field 3 fields) then λ policy.
     number largest_draw (field 4 fields) then λ draw.
-    some (made (Call.Ask t wanted policy draw) [])
+    Some (made (Call.Ask t wanted policy draw) [])
 
 abbrev pub tick_at : Time → List (List ℕ) → Option Invocation
-tick_at t fields = number largest_draw (field 2 fields) then λ draw. some (made (Call.Tick t draw) [])
+tick_at t fields = number largest_draw (field 2 fields) then λ draw. Some (made (Call.Tick t draw) [])
 
 abbrev pub packet_at : Time → List (List ℕ) → Option Invocation
-packet_at t fields = bytes (field 2 fields) then λ frame. some (made (Call.Packet t) frame)
+packet_at t fields = bytes (field 2 fields) then λ frame. Some (made (Call.Packet t) frame)
 
 abbrev pub drop_at : Time → List (List ℕ) → Option Invocation
-drop_at t fields = number largest (field 2 fields) then λ slot. some (made (Call.Drop t slot) [])
+drop_at t fields = number largest (field 2 fields) then λ slot. Some (made (Call.Drop t slot) [])
 
 abbrev pub forms : List Form
 forms =
@@ -83,7 +82,7 @@ forms =
 
 -- The call that fields make, or none (readings empty-packet-field, unused-draw).
 abbrev pub call_by : List Form → List (List ℕ) → Option Invocation
-call_by [] fields = none
+call_by [] fields = None
 call_by (form ∷ others) fields = cond (is_form form.word form.more fields) (form.call fields) (call_by others fields)
 
 unfoldable pub call_in : List (List ℕ) → Option Invocation
@@ -95,4 +94,4 @@ longest_line = 4_096
 
 -- The call that a line makes, or none: "fields parted by one tab".
 unfoldable pub call_of : List ℕ → Option Invocation
-call_of line = cond (leb (length line) longest_line) (call_in (parts tab line)) none
+call_of line = cond (leb (length line) longest_line) (call_in (parts tab line)) None

@@ -1,6 +1,5 @@
 -- Numbers, addresses and bytes as text, read and printed.
-use Rattle.std.specs.Prelude.{ℕ, zero, suc, ◌+◌, ◌-◌, ◌*◌, ◌/◌, ◌%◌, Bool, true, false, not, cond, ◌&&◌, ◌||◌, List, [], ◌∷◌, ◌++◌, eqb, leb, ltb, length}
-use Rattle.std.proofs.Math.Option.{Option, none, some}
+use Rattle.std.specs.Prelude.{ℕ, zero, suc, ◌+◌, ◌-◌, ◌*◌, ◌/◌, ◌%◌, Bool, true, false, not, cond, ◌&&◌, ◌||◌, List, [], ◌∷◌, ◌++◌, eqb, leb, ltb, length, Option, None, Some}
 use Rattle.basis.specs.Bytes.{number_of}
 use Rattle.basis.specs.declared.Ipv4Address.{Ipv4Address}
 use Rattle.basis.specs.declared.HardwareAddress.{HardwareAddress}
@@ -40,8 +39,8 @@ largest_draw = 4_294_967_295
 
 -- Every one of some texts read, or none.
 unfoldable pub each : (List ℕ → Option ℕ) → List (List ℕ) → Option (List ℕ)
-each read [] = some []
-each read (text ∷ more) = read text then λ n. each read more then λ ns. some (n ∷ ns)
+each read [] = Some []
+each read (text ∷ more) = read text then λ n. each read more then λ ns. Some (n ∷ ns)
 
 -- "Addresses: four such numbers up to 255, parted by dots." (reading addresses-in-form)
 unfoldable pub address : List ℕ → Option Ipv4Address
@@ -49,20 +48,20 @@ address text = each (number 255) (parts dot text) then λ bytes. only (eqb (leng
 
 -- "Lower-case hex": a digit, and two digits for each byte.
 abbrev pub hex_digit : ℕ → Option ℕ
-hex_digit b = cond (is_digit b) (some (b - 48)) (only (leb 97 b && leb b 102) (b - 87))
+hex_digit b = cond (is_digit b) (Some (b - 48)) (only (leb 97 b && leb b 102) (b - 87))
 
 unfoldable pub hex_bytes : List ℕ → Option (List ℕ)
-hex_bytes [] = some []
-hex_bytes (high ∷ []) = none
+hex_bytes [] = Some []
+hex_bytes (high ∷ []) = None
 hex_bytes (high ∷ low ∷ text) =
-    hex_digit high then λ h. hex_digit low then λ l. hex_bytes text then λ bytes. some ((h * 16 + l) ∷ bytes)
+    hex_digit high then λ h. hex_digit low then λ l. hex_bytes text then λ bytes. Some ((h * 16 + l) ∷ bytes)
 
 -- "Bytes: lower-case hex, an even count of digits from 0 to 3,000; hardware exactly 12 digits." (reading empty-packet-field)
 unfoldable pub bytes : List ℕ → Option (List ℕ)
-bytes text = cond (leb (length text) 3_000) (hex_bytes text) none
+bytes text = cond (leb (length text) 3_000) (hex_bytes text) None
 
 unfoldable pub hardware : List ℕ → Option HardwareAddress
-hardware text = cond (eqb (length text) 12) (hex_bytes text then λ six. some (record { 0 = number_of six })) none
+hardware text = cond (eqb (length text) 12) (hex_bytes text then λ six. Some (record { 0 = number_of six })) None
 
 -- A number printed: its digits, at most so many of the last ones, and 20 hold any number up to 2^64 - 1.
 unfoldable pub last_digits : ℕ → ℕ → List ℕ

@@ -2,51 +2,31 @@
 #![tactic(auto)]
 
 ghost use Rattle.std.specs.Prelude.{◌≡◌};
-ghost use Rattle.basis.specs.Clock.{signed, clock_of, clock_report};
+ghost use Rattle.basis.specs.Clock.{clock_of, clock_report};
 
 use basis::{ClockAnswer, LAST_TIME, Refusal, Time};
 
-// A wrapped difference as a signed step.
-fn signed_step(difference: u32) -> i32
-    ensures { result ≡ signed difference }
-{
-    if difference < 2147483648 {
-        difference as i32
-    } else {
-        -1 - ((4294967295 - difference) as i32)
-    }
-}
-
 // The time of a reading taken after `latest`.
-#[tactic(auto, using(crate::proofs::ClockLaws::clock_ends))]
+#[tactic(auto, unfolding(basis::specs::Clock::clock_of, basis::specs::Clock::clock_step, basis::specs::Clock::clock_refusal))]
 pub fn widen(latest: Time, reading: u32) -> ClockAnswer
     ensures { clock_report result ≡ clock_of latest.0 reading }
 {
     if LAST_TIME < latest.0 {
-        ClockAnswer::Refused {
-            refusal: Refusal::TimeAboveRange,
+        return ClockAnswer {
             step: 0,
-        }
-    } else {
-        let low = (latest.0 % 4294967296) as u32;
-        let difference = std::num::wrapping_sub_u32(reading, low);
-        let step = signed_step(difference);
-        let time = latest.0 + difference as u64;
-        if step < 0 {
-            ClockAnswer::Refused {
-                refusal: Refusal::TimeBelowLatest,
-                step,
-            }
-        } else if LAST_TIME < time {
-            ClockAnswer::Refused {
-                refusal: Refusal::TimeAboveRange,
-                step,
-            }
-        } else {
-            ClockAnswer::Widened {
-                time: Time(time),
-                step,
-            }
-        }
+            time: Err(Refusal::TimeAboveRange),
+        };
     }
+    let low = (latest.0 % (1 << 32)) as u32;
+    let difference = reading.wrapping_sub(low);
+    let step = difference.cast_signed();
+    let later = latest.0 + u64::from(difference);
+    let time = if step < 0 {
+        Err(Refusal::TimeBelowLatest)
+    } else if LAST_TIME < later {
+        Err(Refusal::TimeAboveRange)
+    } else {
+        Ok(Time(later))
+    };
+    ClockAnswer { step, time }
 }

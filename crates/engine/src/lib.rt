@@ -7,25 +7,24 @@ ghost use Rattle.basis.specs.declared.Call.TheVariants as Calls;
 ghost use Rattle.basis_engine.specs.Machine.{Promised};
 
 use basis::{Call, Called, Interface, Ipv4Address, Setup, Time};
+use engine_admission::Judged;
 
 // A call on any state.
 fn perform(state: Interface, call: Call, bytes: &[u8], out: &mut [u8]) -> Called
     ensures { Promised state call bytes.now out.old result.answer result.state out.new }
 {
-    let sound = engine_soundness::is_sound(state);
-    let performed = engine_calls::perform(state, sound, call, bytes, out);
-    let answer = performed.answer;
-    let new = performed.state;
-    Called { answer, state: new }
+    let performed = engine_calls::perform(&Judged::new(state), call, bytes, out);
+    Called {
+        answer: performed.answer,
+        state: performed.state,
+    }
 }
 
 // A call to which nothing is lent.
 fn perform_alone(state: Interface, call: Call) -> Called
     ensures { Promised state call [] [] result.answer result.state [] }
 {
-    let bytes = [0u8; 0];
-    let mut out = [0u8; 0];
-    perform(state, call, &bytes, &mut out)
+    perform(state, call, &[], &mut [])
 }
 
 // Makes a new interface, in place of the one handed in.
@@ -52,23 +51,19 @@ pub fn ask(state: Interface, time: Time, address: Ipv4Address, policy: u64, draw
 pub fn tick(state: Interface, time: Time, draw: u32, out: &mut [u8]) -> Called
     ensures { Promised state (Calls.Tick time draw) [] out.old result.answer result.state out.new }
 {
-    let call = Call::Tick { time, draw };
-    let bytes = [0u8; 0];
-    perform(state, call, &bytes, out)
+    perform(state, Call::Tick { time, draw }, &[], out)
 }
 
 // An ARP packet came in.
 pub fn packet(state: Interface, time: Time, bytes: &[u8], out: &mut [u8]) -> Called
     ensures { Promised state (Calls.Packet time) bytes.now out.old result.answer result.state out.new }
 {
-    let call = Call::Packet { time };
-    perform(state, call, bytes, out)
+    perform(state, Call::Packet { time }, bytes, out)
 }
 
 // Frees a slot.
 pub fn drop(state: Interface, time: Time, slot: u64) -> Called
     ensures { Promised state (Calls.Drop time slot) [] [] result.answer result.state [] }
 {
-    let call = Call::Drop { time, slot };
-    perform_alone(state, call)
+    perform_alone(state, Call::Drop { time, slot })
 }

@@ -1,35 +1,32 @@
 -- A law for each way that a function ends.
-use Prim.Native.Nat.{◌≤◌, ◌<◌}
+use Prim.Native.Nat.{ℕ, ◌≤◌, ◌<◌}
 use mathlib.Core.Path.{◌≡◌}
 use mathlib.Core.Bool.{Bool, true, false, not}
-use mathlib.Core.Option.{none, some}
+use Rattle.std.specs.Prelude.{Option, Some}
 use borrow.Author.Tests.{lt-ltb, le-ltb}
 use Rattle.basis.specs.Times.{last_time}
-use Rattle.basis.specs.Answers.{refusal_number, ◌if◌else◌}
 use Rattle.basis.specs.declared.Time.{Time}
-use Rattle.basis.specs.declared.Refusal.{Refusal}
-use Rattle.engine_admission.specs.declared.Check.{Check}
-use Rattle.engine_admission.specs.declared.Check.TheVariants.{Passed}
-use Rattle.engine_admission.specs.Rows.{check_of, first_rows, or_else}
+use Rattle.basis.specs.declared.Interface.{Interface}
+use Rattle.basis_engine.specs.Interface.{is_sound}
+use Rattle.basis_engine.specs.Refusals.{state_and_time}
 
-module _ (sound : Bool) (latest time : Time) where
-  pub not_sound : not sound ≡ true → some 1 ≡ first_rows sound latest time
-  not_sound e = rw e
+module _ (s : Interface) (sound : Bool) (known : sound ≡ is_sound s) (time : Time) (others : Option ℕ) where
+  pub not_sound : not sound ≡ true → Some 1 ≡ state_and_time s time others
+  unfolding state_and_time
+  not_sound e = rw (← known, e)
 
   module _ (is : not sound ≡ false) where
-    pub above_range : last_time < time.0 → some 3 ≡ first_rows sound latest time
-    above_range h = rw (is, lt-ltb last_time time.0 h)
+    pub above_range : last_time < time.0 → Some 3 ≡ state_and_time s time others
+    unfolding state_and_time
+    above_range h = rw (← known, is, lt-ltb last_time time.0 h)
 
     module _ (within : time.0 ≤ last_time) where
-      pub below_latest : time.0 < latest.0 → some 4 ≡ first_rows sound latest time
-      below_latest h = rw (is, le-ltb last_time time.0 within, lt-ltb time.0 latest.0 h)
+      pub below_latest : time.0 < s.latest.0 → Some 4 ≡ state_and_time s time others
+      unfolding state_and_time
+      below_latest h = rw (← known, is, le-ltb last_time time.0 within, lt-ltb time.0 s.latest.0 h)
 
-      pub passes : latest.0 ≤ time.0 → none ≡ first_rows sound latest time
-      passes h = rw (is, le-ltb last_time time.0 within, le-ltb time.0 latest.0 h)
+      pub passes : s.latest.0 ≤ time.0 → others ≡ state_and_time s time others
+      unfolding state_and_time
+      passes h = rw (← known, is, le-ltb last_time time.0 within, le-ltb time.0 s.latest.0 h)
 
 pub ruleset admit_ends = (not_sound, above_range, below_latest, passes)
-
--- A check that is through its rows leaves it to the next one.
-pub row_applies : (check : Check) → check ≡ Passed → (refusal : Refusal) (applies : Bool) → applies ≡ true →
-    some (refusal_number refusal) ≡ or_else (check_of check) (refusal_number refusal if applies else none)
-row_applies check pass refusal applies e = rw (pass, e)

@@ -1,65 +1,78 @@
--- The rows 1, 3 and 4, then a call's own.
-use Prim.Native.Nat.{ℕ}
-use mathlib.Core.Path.{◌≡◌, refl, sym, ap, ◌∙◌}
+-- The rows that a call begins with, before its others: they refuse it, or leave it to those.
+use Prim.Native.Nat.{ℕ, ◌≤◌, ◌<◌}
+use mathlib.Core.Path.{◌≡◌, refl, sym, ◌∙◌}
 use mathlib.Core.Bool.{Bool, true, false, not}
-use mathlib.Core.Option.{Option, none, some}
+use Rattle.std.specs.Prelude.{Option, None, Some}
 use lib.Dec.{ltb}
+use borrow.Author.Tests.{lt-ltb, le-ltb}
 use Rattle.basis.specs.Times.{last_time}
 use Rattle.basis.specs.Answers.{◌if◌else◌}
+use Rattle.basis.specs.Frame.{frame_length}
 use Rattle.basis.specs.declared.Time.{Time}
 use Rattle.basis.specs.declared.Interface.{Interface}
-use Rattle.basis.specs.Frame.{frame_length}
 use Rattle.basis_engine.specs.Interface.{is_sound}
 use Rattle.basis_engine.specs.Refusals.{state_and_time, state_time_and_room}
-use Rattle.basis_engine.proofs.Acceptance.{Admitted, roomy}
-use Rattle.engine_admission.specs.declared.Check.{Check}
-use Rattle.engine_admission.specs.declared.Check.TheVariants.{Passed}
-use Rattle.engine_admission.specs.Rows.{check_of, first_rows, or_else}
 
--- A row and what comes after it are one part of the table.
-pub row_joins : (first : Option ℕ) (n : ℕ) (applies : Bool) (others : Option ℕ) →
-    or_else (or_else first (n if applies else none)) others ≡ or_else first (n if applies else others)
-row_joins none n true others = refl
-row_joins none n false others = refl
-row_joins (some m) n applies others = refl
+barred_by : (n : ℕ) (sound above below : Bool) (others : Option ℕ) →
+    (1 if not sound else 3 if above else 4 if below else None) ≡ Some n → (1 if not sound else 3 if above else 4 if below else others) ≡ Some n
+barred_by n false above below others e = e
+barred_by n true true below others e = e
+barred_by n true false true others e = e
+barred_by n true false false others e = cc
 
--- Rows 1, 3 and 4 are one.
+left_by : (sound above below : Bool) (others : Option ℕ) →
+    (1 if not sound else 3 if above else 4 if below else None) ≡ None → (1 if not sound else 3 if above else 4 if below else others) ≡ others
+left_by false above below others e = cc
+left_by true true below others e = cc
+left_by true false true others e = cc
+left_by true false false others e = refl
+
 module _ (s : Interface) (time : Time) (others : Option ℕ) where
-  joins : (sound above below : Bool) →
-      or_else (1 if not sound else 3 if above else 4 if below else none) others ≡ 1 if not sound else 3 if above else 4 if below else others
-  joins true false false = refl
-  joins true false true = refl
-  joins true true below = refl
-  joins false above below = refl
-
-  pub admits : or_else (state_and_time s time none) others ≡ state_and_time s time others
+  pub rows_bar : (n : ℕ) → state_and_time s time None ≡ Some n → state_and_time s time others ≡ Some n
   unfolding state_and_time
-  admits = joins (is_sound s) (ltb last_time time.0) (ltb time.0 s.latest.0)
+  rows_bar n e = barred_by n (is_sound s) (ltb last_time time.0) (ltb time.0 s.latest.0) others e
 
--- What the first rows give of a state is what the table says of it.
-pub first_rows_lem : (s : Interface) (sound : Bool) → sound ≡ is_sound s → (time : Time) → first_rows sound s.latest time ≡ state_and_time s time none
-unfolding state_and_time
-first_rows_lem s sound e time = rw e
+  pub rows_leave : state_and_time s time None ≡ None → state_and_time s time others ≡ others
+  unfolding state_and_time
+  rows_leave e = left_by (is_sound s) (ltb last_time time.0) (ltb time.0 s.latest.0) others e
 
--- `admitted` is what the rows 1, 3 and 4 gave, and `check` what came of them and of row 5: before a call's other rows, and where
--- there are none.
-module _
-    (s : Interface) (time : Time) (room : ℕ)
-    (admitted check : Check) (first : check_of admitted ≡ state_and_time s time none)
-    (told : check_of check ≡ or_else (check_of admitted) (5 if ltb room frame_length else none)) where
-  pub room_rows : (others : Option ℕ) → state_time_and_room s time room others ≡ or_else (check_of check) others
-  room_rows others =
-      sym (admits s time (5 if ltb room frame_length else others))
-      ∙ sym (row_joins (state_and_time s time none) 5 (ltb room frame_length) others)
-      ∙ ap (λ (n : Option ℕ). or_else (or_else n (5 if ltb room frame_length else none)) others) (sym first)
-      ∙ ap (λ (n : Option ℕ). or_else n others) (sym told)
+-- Row 5 behind them.
+module _ (s : Interface) (time : Time) (room : ℕ) where
+  pub room_bars : (n : ℕ) → Some n ≡ state_and_time s time None → Some n ≡ state_time_and_room s time room None
+  room_bars n e = sym (rows_bar s time (5 if ltb room frame_length else None) n (sym e))
 
-  pub room_last : check_of check ≡ state_time_and_room s time room none
-  room_last = sym (room_rows none ∙ nothing_else (check_of check))
-    where
-      nothing_else : (n : Option ℕ) → or_else n none ≡ n
-      nothing_else none = refl
-      nothing_else (some n) = refl
+  pub room_refuses : None ≡ state_and_time s time None → room < frame_length → Some 5 ≡ state_time_and_room s time room None
+  room_refuses e h = sym (rows_leave s time (5 if ltb room frame_length else None) (sym e) ∙ rw (lt-ltb room frame_length h))
 
-  pub room_passed : check ≡ Passed → Admitted s time
-  room_passed pass = (roomy s time room none (room_rows none ∙ rw pass)).0
+  pub room_passes : None ≡ state_and_time s time None → frame_length ≤ room → None ≡ state_time_and_room s time room None
+  room_passes e h = sym (rows_leave s time (5 if ltb room frame_length else None) (sym e) ∙ rw (le-ltb room frame_length h))
+
+pub ruleset room_ends = (room_bars, room_refuses, room_passes)
+
+-- All four, before a call's others.
+room_barred : (n : ℕ) (sound above below short : Bool) (others : Option ℕ) →
+    (1 if not sound else 3 if above else 4 if below else 5 if short else None) ≡ Some n →
+    (1 if not sound else 3 if above else 4 if below else 5 if short else others) ≡ Some n
+room_barred n false above below short others e = e
+room_barred n true true below short others e = e
+room_barred n true false true short others e = e
+room_barred n true false false true others e = e
+room_barred n true false false false others e = cc
+
+room_left : (sound above below short : Bool) (others : Option ℕ) →
+    (1 if not sound else 3 if above else 4 if below else 5 if short else None) ≡ None →
+    (1 if not sound else 3 if above else 4 if below else 5 if short else others) ≡ others
+room_left false above below short others e = cc
+room_left true true below short others e = cc
+room_left true false true short others e = cc
+room_left true false false true others e = cc
+room_left true false false false others e = refl
+
+module _ (s : Interface) (time : Time) (room : ℕ) (others : Option ℕ) where
+  pub room_rows_bar : (n : ℕ) → state_time_and_room s time room None ≡ Some n → state_time_and_room s time room others ≡ Some n
+  unfolding state_and_time
+  room_rows_bar n e = room_barred n (is_sound s) (ltb last_time time.0) (ltb time.0 s.latest.0) (ltb room frame_length) others e
+
+  pub room_rows_leave : state_time_and_room s time room None ≡ None → state_time_and_room s time room others ≡ others
+  unfolding state_and_time
+  room_rows_leave e = room_left (is_sound s) (ltb last_time time.0) (ltb time.0 s.latest.0) (ltb room frame_length) others e

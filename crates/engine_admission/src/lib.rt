@@ -1,56 +1,55 @@
-// The refusals of a call on a state, row by row: the first three, and how a further one is added.
+// The refusals that a call on a state begins with: the rows 1, 3 and 4 of the table, and row 5 of a call that is lent an out buffer.
 #![tactic(auto)]
 
-ghost use Rattle.std.specs.Prelude.{◌≡◌, ltb};
-ghost use Rattle.std.proofs.Math.Option.{none};
-ghost use Rattle.basis.specs.Answers.{refusal_number, ◌if◌else◌};
-ghost use Rattle.basis.specs.Frame.{frame_length};
-ghost use Rattle.engine_admission.specs.Rows.{check_of, first_rows, or_else};
+ghost use Rattle.std.specs.Prelude.{◌≡◌, None};
+ghost use Rattle.basis_engine.specs.Interface.{is_sound};
+ghost use Rattle.basis_engine.specs.Refusals.{state_and_time, state_time_and_room};
+ghost use Rattle.engine_admission.specs.Rows.{refusal_in};
 
-use basis::{FRAME_LENGTH, LAST_TIME, Refusal, Time};
+use basis::{FRAME_LENGTH, Interface, LAST_TIME, Refusal, Time};
 
-// How a call comes through rows of the refusals.
+// A state, and whether it is sound. To find out takes some time, so it is done once.
 #[derive(Clone, Copy)]
-pub enum Check {
-    Passed,
-    Refused(Refusal),
+pub struct Judged {
+    pub state: Interface,
+    pub sound: bool,
+    ghost known: { sound ≡ is_sound state },
 }
 
-// The rows 1, 3 and 4, of a state that is sound or not and has this latest time.
-#[tactic(auto, using(crate::proofs::AdmissionLaws::admit_ends))]
-pub fn admit(sound: bool, latest: Time, time: Time) -> Check
-    ensures { check_of result ≡ first_rows sound latest time }
-{
-    if !sound {
-        Check::Refused(Refusal::StateNotSound)
-    } else if LAST_TIME < time.0 {
-        Check::Refused(Refusal::TimeAboveRange)
-    } else if time.0 < latest.0 {
-        Check::Refused(Refusal::TimeBelowLatest)
-    } else {
-        Check::Passed
+impl Judged {
+    // Any state.
+    pub fn new(state: Interface) -> Self
+        ensures { result.state ≡ state }
+    {
+        let sound = engine_soundness::is_sound(&state);
+        Judged { state, sound }
     }
-}
 
-// A row of the refusals, after those that a check stands for: the first that applies counts.
-pub fn row(check: Check, refusal: Refusal, applies: bool) -> Check
-    ensures { check_of result ≡ or_else (check_of check) (refusal_number refusal if applies else none) }
-{
-    match check {
-        Check::Refused(_) => check,
-        Check::Passed => {
-            if applies {
-                Check::Refused(refusal)
-            } else {
-                Check::Passed
-            }
+    // The rows 1, 3 and 4.
+    #[tactic(auto, using(crate::proofs::AdmissionLaws::admit_ends))]
+    pub fn admit(&self, time: Time) -> Result<(), Refusal>
+        ensures { refusal_in result ≡ state_and_time self.now.state time None }
+    {
+        if !self.sound {
+            Err(Refusal::StateNotSound)
+        } else if LAST_TIME < time.0 {
+            Err(Refusal::TimeAboveRange)
+        } else if time.0 < self.state.latest.0 {
+            Err(Refusal::TimeBelowLatest)
+        } else {
+            Ok(())
         }
     }
-}
 
-// The row 5, of a call that is lent an out buffer with so much room, after those that a check stands for.
-pub fn row_of_room(check: Check, room: usize) -> Check
-    ensures { check_of result ≡ or_else (check_of check) (5 if ltb room frame_length else none) }
-{
-    row(check, Refusal::BufferTooShort, room < FRAME_LENGTH)
+    // The rows 1, 3, 4 and 5, of a call that is lent an out buffer with so much room.
+    #[tactic(auto, using(crate::proofs::Rows::room_ends))]
+    pub fn admit_with_room(&self, time: Time, room: usize) -> Result<(), Refusal>
+        ensures { refusal_in result ≡ state_time_and_room self.now.state time room None }
+    {
+        self.admit(time)?;
+        if room < FRAME_LENGTH {
+            return Err(Refusal::BufferTooShort);
+        }
+        Ok(())
+    }
 }

@@ -1,9 +1,9 @@
--- What `perform` says of the frame.
-use Rattle.std.specs.Prelude.{Bool, true, false}
-use Rattle.std.proofs.Math.Option.{Option, none, some}
-use Rattle.basis.specs.declared.Frame.{Frame}
+-- What the inner functions of src/ promise one another.
+use Rattle.std.specs.Prelude.{Bool, false, Result, Ok, Err, is_some}
+use Rattle.basis.specs.declared.Refusal.{Refusal}
+use Rattle.engine_decisions.specs.declared.Decision.{Decision}
 
--- Whether there is a frame that goes out.
-abbrev pub is_sent : Option Frame → Bool
-is_sent none = false
-is_sent (some frame) = true
+-- Whether a frame goes out.
+abbrev pub is_sent : Result Decision Refusal → Bool
+is_sent (Ok d) = is_some d.frame
+is_sent (Err refusal) = false

@@ -1,3 +1,2 @@
 -- What the functions do, and what the calls need of it.
 pub mod DecisionsLaws
-pub mod Promises

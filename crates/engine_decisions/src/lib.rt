@@ -3,98 +3,63 @@
 #![tactic(auto)]
 
 ghost use Rattle.std.specs.Prelude.{◌≡◌};
-ghost use Rattle.basis.specs.Answers.{refusal_number, slot_of, answer_report};
 ghost use Rattle.basis_engine.specs.Calls as Calls;
-ghost use Rattle.engine_decisions.specs.Decisions.{frame_in, sent_out, answer_with, Decides, Declines, CarriedOut};
+ghost use Rattle.engine_decisions.specs.Decisions.{sent_out, Decides, CarriedOut};
 
-use basis::{Answer, Called, Frame, Interface, Kind, Record, Refusal, SlotNumber, Time};
+use basis::{Called, Frame, Interface, Kind, Refusal, Success, Time};
 use engine_state::Change;
 
-// A frame that goes out, or none.
-#[derive(Clone, Copy)]
-pub enum Outgoing {
-    Nothing,
-    Send(Frame),
-}
-
-// Whether a call is refused, or the kind of what it does.
-#[derive(Clone, Copy)]
-pub enum Verdict {
-    Refused(Refusal),
-    Accepted(Kind),
-}
-
-// What a call comes to, before anything is changed. The slot that it reports is the one that changes.
+// What an accepted call comes to, before anything is changed. The slot that it reports is the one that changes.
 #[derive(Clone, Copy)]
 pub struct Decision {
-    pub verdict: Verdict,
+    pub kind: Kind,
     pub change: Change,
-    pub frame: Outgoing,
-}
-
-// Refused: nothing changes and nothing goes out.
-pub fn refused(refusal: Refusal, state: Interface) -> Decision
-    ensures { Declines state (refusal_number refusal) result }
-{
-    let latest = state.latest;
-    let held = engine_slots::free_record();
-    let change = engine_state::change_at(state, latest, SlotNumber::Absent, held);
-    Decision {
-        verdict: Verdict::Refused(refusal),
-        change,
-        frame: Outgoing::Nothing,
-    }
+    pub frame: Option<Frame>,
 }
 
 // Nothing but the latest time changes.
-pub fn nothing(state: Interface, time: Time) -> Decision
-    ensures { Decides state (Calls.nothing state time) result }
+pub fn nothing(state: &Interface, time: Time) -> Decision
+    ensures { Decides state.now (Calls.nothing state.now time) result }
 {
-    let held = engine_slots::free_record();
-    let change = engine_state::change_at(state, time, SlotNumber::Absent, held);
+    let change = Change::at(state, time, None, engine_slots::free_record());
     Decision {
-        verdict: Verdict::Accepted(Kind::Nothing),
+        kind: Kind::Nothing,
         change,
-        frame: Outgoing::Nothing,
-    }
-}
-
-// The answer to a call that leaves these records.
-fn answer(verdict: Verdict, slot: SlotNumber, records: [Record; 4]) -> Answer
-    ensures { answer_report result ≡ answer_with verdict (slot_of slot) records }
-{
-    match verdict {
-        Verdict::Refused(refusal) => Answer::Refused(refusal),
-        Verdict::Accepted(kind) => {
-            let next = engine_deadlines::smallest_deadline(records);
-            Answer::Accepted { kind, slot, next }
-        }
+        frame: None,
     }
 }
 
 // Writes the frame that goes out, if there is one.
-fn hand_out(frame: Outgoing, out: &mut [u8])
-    ensures { out.new ≡ sent_out (frame_in frame) out.old }
+fn hand_out(frame: Option<Frame>, out: &mut [u8])
+    ensures { out.new ≡ sent_out frame out.old }
 {
-    match frame {
-        Outgoing::Nothing => {}
-        Outgoing::Send(sent) => {
-            frame_writer::write(sent, out);
-        }
+    if let Some(frame) = frame {
+        let _ = frame_writer::write(frame, out);
     }
 }
 
-// Carries a decision out: the frame is written, the state changed, and the answer made.
-pub fn carry_out(state: Interface, decision: Decision, out: &mut [u8]) -> Called
-    ensures { CarriedOut state decision out.old result out.new }
+// Carries a decision out: the frame is written, the state changed, and the answer made. After a refusal nothing is.
+#[tactic(auto, using(crate::proofs::DecisionsLaws::carried_out))]
+pub fn carry_out(state: Interface, decided: Result<Decision, Refusal>, out: &mut [u8]) -> Called
+    ensures { CarriedOut state decided out.old result out.new }
 {
-    let verdict = decision.verdict;
-    let change = decision.change;
-    let frame = decision.frame;
-    let slot = change.slot;
-    hand_out(frame, out);
-    let new = engine_state::changed(state, change);
-    let records = new.records;
-    let answer = answer(verdict, slot, records);
-    Called { answer, state: new }
+    match decided {
+        Err(refusal) => Called {
+            answer: Err(refusal),
+            state,
+        },
+        Ok(decision) => {
+            hand_out(decision.frame, out);
+            let changed = decision.change.applied_to(state);
+            let success = Success {
+                kind: decision.kind,
+                slot: decision.change.slot,
+                next: engine_deadlines::smallest_deadline(&changed.records),
+            };
+            Called {
+                answer: Ok(success),
+                state: changed,
+            }
+        }
+    }
 }

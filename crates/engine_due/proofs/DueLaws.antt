@@ -1,12 +1,10 @@
 -- A law for each way that a function ends.
 use Prim.Native.Nat.{ℕ, ◌+◌, ◌≤◌, ◌<◌}
 use mathlib.Core.Path.{◌≡◌}
-use mathlib.Core.Option.{none, some}
+use Rattle.std.specs.Prelude.{None, Some, Option}
 use native.Mathlib.Numerals.{add-one}
 use borrow.Author.Tests.{lt-ltb, le-ltb}
 use Rattle.basis.specs.Frame.{probe, announcement}
-use Rattle.basis.specs.declared.Moment.{Moment}
-use Rattle.basis.specs.declared.Moment.TheVariants.{Never}
 use Rattle.basis.specs.declared.Record.{Record}
 use Rattle.basis.specs.declared.Setup.{Setup}
 use Rattle.basis.specs.declared.Stage.{Stage}
@@ -16,41 +14,35 @@ use Rattle.basis.specs.declared.Frame.{Frame}
 use Rattle.basis.specs.declared.Kind.{Kind}
 use Rattle.basis_engine.specs.Timing.{rfc5227, gap}
 use Rattle.basis_engine.specs.Interface.{sender_of}
-use Rattle.basis_engine.specs.Calls.{delay, DueFrame, due_frame, stage_after}
-use Rattle.engine_decisions.specs.declared.Outgoing.TheVariants.{Send}
-use Rattle.engine_due.specs.Due.{due_of}
+use Rattle.basis_engine.specs.Calls.{delay, due_frame, stage_after}
 
--- `frame` is what `engine_frames` made.
-pub due_made : (kind : Kind) (frame made : Frame) → frame ≡ made →
-    due_of (record { kind = kind; frame = Send frame }) ≡ record { kind = kind; frame = some made }
-due_made kind frame made e = rw e
-
-module _ (setup : Setup) (claim : Record) (due : DueFrame) where
-  module _ (is : due ≡ record { kind = Kind.Nothing; frame = none }) where
-    pub due_free : claim.stage ≡ Free → due ≡ due_frame rfc5227 setup claim
-    unfolding due_frame
-    due_free e = rw e is
-
-    pub due_settled : (conflict : Moment) → claim.stage ≡ Settled conflict → due ≡ due_frame rfc5227 setup claim
-    unfolding due_frame
-    due_settled conflict e = rw e is
-
-  pub due_probe : due ≡ record { kind = Kind.Probe; frame = some (probe (sender_of setup) claim.address) } →
-      (sent : ℕ) (deadline : Time) → claim.stage ≡ Probing sent deadline → sent < rfc5227.probe_num →
-      due ≡ due_frame rfc5227 setup claim
+module _ (setup : Setup) (claim : Record) where
+  pub due_free : claim.stage ≡ Free → record { kind = Kind.Nothing; frame = None } ≡ due_frame rfc5227 setup claim
   unfolding due_frame
-  due_probe is sent deadline e h = rw (e, lt-ltb sent rfc5227.probe_num h) is
+  due_free e = rw e
 
-  module _ (is : due ≡ record { kind = Kind.Announce; frame = some (announcement (sender_of setup) claim.address) }) where
-    pub due_first : (sent : ℕ) (deadline : Time) → claim.stage ≡ Probing sent deadline → rfc5227.probe_num ≤ sent →
-        due ≡ due_frame rfc5227 setup claim
-    unfolding due_frame
-    due_first sent deadline e h = rw (e, le-ltb sent rfc5227.probe_num h) is
+  pub due_settled : (conflict : Option Time) → claim.stage ≡ Settled conflict →
+      record { kind = Kind.Nothing; frame = None } ≡ due_frame rfc5227 setup claim
+  unfolding due_frame
+  due_settled conflict e = rw e
 
-    pub due_second : (deadline : Time) (conflict : Moment) → claim.stage ≡ Announced deadline conflict →
-        due ≡ due_frame rfc5227 setup claim
+  module _ (f : Frame) where
+    pub due_probe : f ≡ probe (sender_of setup) claim.address →
+        (sent : ℕ) (deadline : Time) → claim.stage ≡ Probing sent deadline → sent < rfc5227.probe_num →
+        record { kind = Kind.Probe; frame = Some f } ≡ due_frame rfc5227 setup claim
     unfolding due_frame
-    due_second deadline conflict e = rw e is
+    due_probe is sent deadline e h = rw (e, lt-ltb sent rfc5227.probe_num h, is)
+
+    module _ (is : f ≡ announcement (sender_of setup) claim.address) where
+      pub due_first : (sent : ℕ) (deadline : Time) → claim.stage ≡ Probing sent deadline → rfc5227.probe_num ≤ sent →
+          record { kind = Kind.Announce; frame = Some f } ≡ due_frame rfc5227 setup claim
+      unfolding due_frame
+      due_first sent deadline e h = rw (e, le-ltb sent rfc5227.probe_num h, is)
+
+      pub due_second : (deadline : Time) (conflict : Option Time) → claim.stage ≡ Announced deadline conflict →
+          record { kind = Kind.Announce; frame = Some f } ≡ due_frame rfc5227 setup claim
+      unfolding due_frame
+      due_second deadline conflict e = rw (e, is)
 
 pub ruleset due_ends = (due_free, due_probe, due_first, due_second, due_settled)
 
@@ -68,7 +60,7 @@ module _ (time : Time) (draw : ℕ) (stage : Stage) where
   unfolding stage_after
   after_free e = rw e
 
-  pub after_settled : (conflict : Moment) → stage ≡ Settled conflict → stage ≡ stage_after rfc5227 time draw stage
+  pub after_settled : (conflict : Option Time) → stage ≡ Settled conflict → stage ≡ stage_after rfc5227 time draw stage
   unfolding stage_after
   after_settled conflict e = rw e
 
@@ -79,11 +71,11 @@ module _ (time : Time) (draw : ℕ) (stage : Stage) where
     after_probe h ms m = rw (e, lt-ltb sent rfc5227.probe_num h, m, add-one sent)
 
     pub after_first : rfc5227.probe_num ≤ sent →
-        Announced (record { 0 = time.0 + rfc5227.announce_interval }) Never ≡ stage_after rfc5227 time draw stage
+        Announced (record { 0 = time.0 + rfc5227.announce_interval }) None ≡ stage_after rfc5227 time draw stage
     unfolding stage_after
     after_first h = rw (e, le-ltb sent rfc5227.probe_num h)
 
-  pub after_second : (deadline : Time) (conflict : Moment) → stage ≡ Announced deadline conflict →
+  pub after_second : (deadline : Time) (conflict : Option Time) → stage ≡ Announced deadline conflict →
       Settled conflict ≡ stage_after rfc5227 time draw stage
   unfolding stage_after
   after_second deadline conflict e = rw e

@@ -1,4 +1,4 @@
--- Each request is the frame of the crate basis, and a sound state's requests can be written.
+-- A sound state's requests can be written.
 use Prim.Native.Nat.{ℕ, ◌≤◌}
 use mathlib.Core.Path.{◌≡◌}
 use mathlib.Core.List.{List}
@@ -7,22 +7,10 @@ use lib.ListN.{length}
 use borrow.Author.Tests.{le-ltb}
 use Rattle.basis.specs.Frame.{probe, announcement, is_writable, write_refusal, frame_put, write_out, frame_length}
 use Rattle.basis.specs.declared.Ipv4Address.{Ipv4Address}
-use Rattle.basis.specs.declared.Frame.{Frame}
 use Rattle.basis.specs.declared.Interface.{Interface}
-use Rattle.basis.specs.declared.Setup.{Setup}
 use Rattle.basis_engine.specs.Interface.{is_sound, sender_of}
 use Rattle.basis_engine.proofs.Acceptance.{sound, sender_hardware}
 use Rattle.engine_frames.specs.OurFrames.{request_of}
-
--- `f` is what `request` made.
-module _ (setup : Setup) (address : Ipv4Address) (f : Frame) where
-  pub is_probe : f ≡ request_of (sender_of setup) (record { 0 = 0 }) address → f ≡ probe (sender_of setup) address
-  unfolding probe
-  is_probe e = e
-
-  pub is_announcement : f ≡ request_of (sender_of setup) address address → f ≡ announcement (sender_of setup) address
-  unfolding announcement
-  is_announcement e = e
 
 -- A sound state's sender has 48 bits, so its requests are put into an out buffer that has room for a frame.
 module _ (s : Interface) (sound_before : is_sound s ≡ true) (address : Ipv4Address) (out : List ℕ) (room : frame_length ≤ length out) where

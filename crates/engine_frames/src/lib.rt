@@ -12,10 +12,12 @@ use basis::{Frame, HardwareAddress, Host, Ipv4Address, Setup};
 fn request(setup: Setup, ip: Ipv4Address, address: Ipv4Address) -> Frame
     ensures { result ≡ request_of (sender_of setup) ip address }
 {
-    let hardware = setup.hardware;
     Frame {
         operation: 1,
-        sender: Host { hardware, ip },
+        sender: Host {
+            hardware: setup.hardware,
+            ip,
+        },
         target: Host {
             hardware: HardwareAddress(0),
             ip: address,
@@ -24,6 +26,7 @@ fn request(setup: Setup, ip: Ipv4Address, address: Ipv4Address) -> Frame
 }
 
 // Asks whether an address is used, without saying that it is ours.
+#[tactic(auto, unfolding(basis::specs::Frame::probe))]
 pub fn probe(setup: Setup, address: Ipv4Address) -> Frame
     ensures { result ≡ Spec.probe (sender_of setup) address }
 {
@@ -31,6 +34,7 @@ pub fn probe(setup: Setup, address: Ipv4Address) -> Frame
 }
 
 // Says that an address is ours. A defence is the same.
+#[tactic(auto, unfolding(basis::specs::Frame::announcement))]
 pub fn announcement(setup: Setup, address: Ipv4Address) -> Frame
     ensures { result ≡ Spec.announcement (sender_of setup) address }
 {

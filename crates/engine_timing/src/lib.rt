@@ -5,7 +5,7 @@ ghost use Rattle.std.specs.Prelude.{◌≡◌};
 ghost use Rattle.basis_engine.specs.Timing.{rfc5227, is_within};
 ghost use Rattle.basis_engine.specs.Timing as Timing;
 
-use basis::{Moment, PROBE_MAX, PROBE_MIN, PROBE_WAIT, Time};
+use basis::{PROBE_MAX, PROBE_MIN, PROBE_WAIT, Time};
 
 // The first wait, in ms.
 pub fn wait(draw: u32) -> u64
@@ -22,11 +22,8 @@ pub fn gap(draw: u32) -> u64
 }
 
 // Whether something happened less than so many ms ago. A time still ahead counts as less than any interval ago.
-pub fn is_within(ms: u64, now: Time, last: Moment) -> bool
+pub fn is_within(ms: u64, now: Time, last: Option<Time>) -> bool
     ensures { result ≡ is_within ms now last }
 {
-    match last {
-        Moment::Never => false,
-        Moment::At(time) => now.0 < time.0 || now.0 - time.0 < ms,
-    }
+    last.is_some_and(|time| now < time || now.0 - time.0 < ms)
 }

@@ -4,9 +4,12 @@
 
 ghost use Rattle.std.specs.Prelude.{◌<◌};
 
-use basis::{FRAME_LENGTH, Frame, Host, ReadAnswer, WriteAnswer};
+use basis::{FRAME_LENGTH, Frame, Host};
 use std::io;
 use std::io::{ErrorKind, Read};
+
+// A line's bytes: two hex digits for each of a frame, and its end.
+const LINE_LENGTH: usize = 2 * FRAME_LENGTH + 1;
 
 // The value of a hex digit. The input is our own data: on any other byte it gives some digit.
 fn digit(c: u8) -> u8
@@ -19,12 +22,11 @@ fn digit(c: u8) -> u8
     }
 }
 
-fn decode(line: [u8; 57]) -> [u8; FRAME_LENGTH] {
-    let mut bytes = [0u8; FRAME_LENGTH];
-    for i in 0..FRAME_LENGTH {
-        let high = digit(line[2 * i]);
-        let low = digit(line[2 * i + 1]);
-        bytes[i] = high * 16 + low;
+fn decode(line: [u8; LINE_LENGTH]) -> [u8; FRAME_LENGTH] {
+    let (pairs, _) = line.as_chunks::<2>();
+    let mut bytes = [0; FRAME_LENGTH];
+    for (byte, [high, low]) in bytes.iter_mut().zip(pairs) {
+        *byte = digit(*high) * 16 + digit(*low);
     }
     bytes
 }
@@ -40,44 +42,30 @@ fn print_fields(rt: &impl Print, frame: Frame) -> io::Result<()> {
 }
 
 fn write_again(rt: &impl Print, frame: Frame, bytes: [u8; FRAME_LENGTH]) -> io::Result<()> {
-    let mut out = [0u8; FRAME_LENGTH];
-    match frame_writer::write(frame, &mut out) {
-        WriteAnswer::Refused(_) => println!(rt; " not written"),
-        WriteAnswer::Written => {
-            if bytes == out {
-                println!(rt; " same")
-            } else {
-                println!(rt; " differs")
-            }
-        }
-    }
+    let mut out = [0; FRAME_LENGTH];
+    let said = match frame_writer::write(frame, &mut out) {
+        Err(_) => "not written",
+        Ok(()) if out == bytes => "same",
+        Ok(()) => "differs",
+    };
+    println!(rt; " {said}")
 }
 
 fn report(rt: &impl Print, bytes: [u8; FRAME_LENGTH]) -> io::Result<()> {
-    match frame_reader::read(&bytes) {
-        ReadAnswer::Refused(_) => println!(rt; "refused"),
-        ReadAnswer::Read(frame) => {
-            print_fields(rt, frame)?;
-            write_again(rt, frame, bytes)
-        }
-    }
+    let Ok(frame) = frame_reader::read(&bytes) else {
+        return println!(rt; "refused");
+    };
+    print_fields(rt, frame)?;
+    write_again(rt, frame, bytes)
 }
 
-// Reports the next line, and answers whether there was one.
-fn report_line(rt: &impl Print, source: &mut impl Read) -> io::Result<bool> {
-    let mut line = [0u8; 57];
+// The next line, or none at the end of the input.
+fn next_line(source: &mut impl Read) -> io::Result<Option<[u8; LINE_LENGTH]>> {
+    let mut line = [0; LINE_LENGTH];
     match source.read_exact(&mut line) {
-        Ok(()) => {
-            report(rt, decode(line))?;
-            Ok(true)
-        }
-        Err(e) => {
-            if e.kind() == ErrorKind::UnexpectedEof {
-                Ok(false)
-            } else {
-                Err(e)
-            }
-        }
+        Ok(()) => Ok(Some(line)),
+        Err(e) if e.kind() == ErrorKind::UnexpectedEof => Ok(None),
+        Err(e) => Err(e),
     }
 }
 
@@ -85,9 +73,10 @@ fn report_line(rt: &impl Print, source: &mut impl Read) -> io::Result<bool> {
 fn main(rt: HostRuntime) -> io::Result<()> {
     let mut source = rt.stdin();
     for _ in 0..u64::MAX {
-        if !report_line(&rt, &mut source)? {
+        let Some(line) = next_line(&mut source)? else {
             break;
-        }
+        };
+        report(&rt, decode(line))?;
     }
     Ok(())
 }

@@ -2,31 +2,33 @@
 #![tactic(auto)]
 
 ghost use Rattle.std.specs.Prelude.{◌≡◌, ◌≤◌, length};
+ghost use Rattle.basis.specs.Bytes.{number_at};
 ghost use Rattle.basis.specs.Frame.{frame_length, frame_of};
 
 use basis::{Frame, HardwareAddress, Host, Ipv4Address};
+use frame::number;
+
+// The two addresses in a host's ten bytes.
+fn host(bytes: &[u8]) -> Host
+    requires { length bytes.now ≡ 10 }
+    ensures hardware { result.hardware.0 ≡ number_at 0 6 bytes.now }
+    ensures ip { result.ip.0 ≡ number_at 6 4 bytes.now }
+{
+    Host {
+        hardware: HardwareAddress(number(&bytes[..6])),
+        ip: Ipv4Address(number(&bytes[6..]) as u32),
+    }
+}
 
 // The fields of 28 or more bytes.
+#[tactic(auto, unfolding(basis::specs::Frame::frame_of))]
 pub fn fields(bytes: &[u8]) -> Frame
     requires { frame_length ≤ length bytes.now }
     ensures { result ≡ frame_of bytes.now }
 {
-    let operation = frame::number2(bytes[6], bytes[7]);
-    let sender = Host {
-        hardware: HardwareAddress(frame::number6(
-            bytes[8], bytes[9], bytes[10], bytes[11], bytes[12], bytes[13],
-        )),
-        ip: Ipv4Address(frame::number4(bytes[14], bytes[15], bytes[16], bytes[17])),
-    };
-    let target = Host {
-        hardware: HardwareAddress(frame::number6(
-            bytes[18], bytes[19], bytes[20], bytes[21], bytes[22], bytes[23],
-        )),
-        ip: Ipv4Address(frame::number4(bytes[24], bytes[25], bytes[26], bytes[27])),
-    };
     Frame {
-        operation,
-        sender,
-        target,
+        operation: number(&bytes[6..8]) as u16,
+        sender: host(&bytes[8..18]),
+        target: host(&bytes[18..28]),
     }
 }

@@ -1,63 +1,32 @@
 // The bytes of an ARP frame of RFC 826, for Ethernet and IPv4: 28, most significant first.
 #![tactic(auto)]
 
-ghost use Rattle.std.specs.Prelude.{◌≡◌, ◌++◌, drop};
-ghost use Rattle.basis.specs.Frame.{request_header, frame_bytes};
+ghost use Rattle.std.specs.Prelude.{◌≡◌, ◌++◌};
+ghost use Rattle.basis.specs.Bytes.{bytes_of};
+ghost use Rattle.basis.specs.Frame.{frame_bytes};
 
-use basis::{FRAME_LENGTH, Frame};
+use basis::{FRAME_LENGTH, Frame, Host};
 use frame::REQUEST;
 
-// A request's bytes, with the frame's addresses.
-fn request(frame: Frame) -> [u8; FRAME_LENGTH]
-    ensures { result ≡ request_header ++ drop 8 (frame_bytes frame) }
+// The bytes of a host's two addresses.
+fn addresses(host: Host) -> [u8; 10]
+    ensures { result ≡ bytes_of 6 host.hardware.0 ++ bytes_of 4 host.ip.0 }
 {
-    let header = REQUEST;
-    let sender_hardware = frame.sender.hardware.0;
-    let sender_ip = frame.sender.ip.0;
-    let target_hardware = frame.target.hardware.0;
-    let target_ip = frame.target.ip.0;
-    [
-        header[0],
-        header[1],
-        header[2],
-        header[3],
-        header[4],
-        header[5],
-        header[6],
-        header[7],
-        (sender_hardware / 1099511627776 % 256) as u8,
-        (sender_hardware / 4294967296 % 256) as u8,
-        (sender_hardware / 16777216 % 256) as u8,
-        (sender_hardware / 65536 % 256) as u8,
-        (sender_hardware / 256 % 256) as u8,
-        (sender_hardware % 256) as u8,
-        (sender_ip / 16777216 % 256) as u8,
-        (sender_ip / 65536 % 256) as u8,
-        (sender_ip / 256 % 256) as u8,
-        (sender_ip % 256) as u8,
-        (target_hardware / 1099511627776 % 256) as u8,
-        (target_hardware / 4294967296 % 256) as u8,
-        (target_hardware / 16777216 % 256) as u8,
-        (target_hardware / 65536 % 256) as u8,
-        (target_hardware / 256 % 256) as u8,
-        (target_hardware % 256) as u8,
-        (target_ip / 16777216 % 256) as u8,
-        (target_ip / 65536 % 256) as u8,
-        (target_ip / 256 % 256) as u8,
-        (target_ip % 256) as u8,
-    ]
+    let mut bytes = [0; 10];
+    bytes[..6].copy_from_slice(&host.hardware.0.to_be_bytes()[2..]);
+    bytes[6..].copy_from_slice(&host.ip.0.to_be_bytes());
+    bytes
 }
 
-// A frame's bytes: those of a request, but for another operation.
-#[tactic(auto, using(crate::proofs::ImageLaws::image_request, crate::proofs::ImageLaws::image_other))]
+// A frame's bytes.
+#[tactic(auto, unfolding(basis::specs::Frame::frame_bytes))]
 pub fn image(frame: Frame) -> [u8; FRAME_LENGTH]
     ensures { result ≡ frame_bytes frame }
 {
-    let operation = frame.operation;
-    let mut bytes = request(frame);
-    if operation != 1 {
-        bytes[6] = (operation / 256 % 256) as u8;
-        bytes[7] = (operation % 256) as u8;
-    }
+    let mut bytes = [0; FRAME_LENGTH];
+    bytes[..6].copy_from_slice(&REQUEST[..6]);
+    bytes[6..8].copy_from_slice(&frame.operation.to_be_bytes());
+    bytes[8..18].copy_from_slice(&addresses(frame.sender));
+    bytes[18..].copy_from_slice(&addresses(frame.target));
     bytes
 }

@@ -1,15 +1,9 @@
 -- What a reading stands for, and what the loop of src/ has left to read.
-use Rattle.std.specs.Prelude.{ℕ, ◌+◌, ◌*◌, ◌^◌, List, eqb, length}
-use Rattle.std.proofs.Math.Option.{Option, none, some}
+use Rattle.std.specs.Prelude.{ℕ, ◌+◌, ◌*◌, ◌^◌, List, eqb, length, Option}
 use Rattle.basis.specs.Bytes.{number_of}
 use Rattle.basis.specs.declared.Ipv4Address.{Ipv4Address}
 use Rattle.basis_lines.specs.Fields.{only, ◌then◌}
 use Rattle.basis_lines.specs.Numbers.{number, each}
-use Rattle.parse_addresses.specs.declared.AddressReading.{AddressReading}
-
-abbrev pub address_of : AddressReading → Option Ipv4Address
-address_of AddressReading.Malformed = none
-address_of (AddressReading.Address a) = some a
 
 -- The address that bytes complete after so many others that made a value; and the same of their texts.
 abbrev pub completed : ℕ → ℕ → List ℕ → Option Ipv4Address

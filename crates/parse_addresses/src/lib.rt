@@ -3,17 +3,9 @@
 
 ghost use Rattle.std.specs.Prelude.{◌+◌, ◌*◌, ◌<◌, ◌≡◌};
 ghost use Rattle.basis_lines.specs.Numbers as Numbers;
-ghost use Rattle.parse_addresses.specs.Dotted.{address_of};
 
 use basis::Ipv4Address;
-use parse_numbers::Reading;
-
-// What a text is as an address.
-#[derive(Clone, Copy)]
-pub enum AddressReading {
-    Malformed,
-    Address(Ipv4Address),
-}
+use parse_numbers::First;
 
 // The largest of the four numbers of an address.
 const LARGEST_OCTET: u64 = 255;
@@ -27,29 +19,21 @@ fn with_octet(value: u64, octet: u64) -> u64
 }
 
 // Three octets that end at dots, and a last one.
-pub fn address(text: &[u8]) -> AddressReading
-    ensures { address_of result ≡ Numbers.address text.now }
+#[tactic(auto, using(crate::proofs::Dotted::read_ends))]
+pub fn address(text: &[u8]) -> Option<Ipv4Address>
+    ensures { result ≡ Numbers.address text.now }
 {
-    let mut value: u64 = 0;
-    let mut start: usize = 0;
-    let mut count: usize = 0;
-    while count < 3 {
-        let rest = &text[start..];
-        let first = parse_numbers::first_number(rest, b'.', LARGEST_OCTET);
-        let end = first.length;
-        let reading = first.reading;
-        let Reading::Number(next) = reading else {
-            return AddressReading::Malformed;
-        };
-        if end == rest.len() {
-            return AddressReading::Malformed;
-        }
-        value = with_octet(value, next);
-        start += end + 1;
-        count += 1;
+    let mut rest = text;
+    let mut value = 0;
+    // A count: each octet's end is found by reading it.
+    for _count in 0..3usize {
+        let First {
+            value: octet,
+            length,
+        } = parse_numbers::first_number(rest, b'.', LARGEST_OCTET)?;
+        rest = parse_fields::after(rest, length)?;
+        value = with_octet(value, octet);
     }
-    let Reading::Number(last) = parse_numbers::number(&text[start..], LARGEST_OCTET) else {
-        return AddressReading::Malformed;
-    };
-    AddressReading::Address(Ipv4Address(with_octet(value, last) as u32))
+    let last = parse_numbers::number(rest, LARGEST_OCTET)?;
+    Some(Ipv4Address(with_octet(value, last) as u32))
 }

@@ -2,16 +2,16 @@
 // bytes; `drop` time slot", fields parted by one tab. To add a form is to add its word here and its reader to the crate parse_forms.
 #![tactic(auto)]
 
-ghost use Rattle.std.specs.Prelude.{◌≤◌, ◌≡◌, [], ◌∷◌, length};
+ghost use Rattle.std.specs.Prelude.{◌≡◌, [], ◌∷◌, MatchOption};
 ghost use Rattle.basis_lines.specs.Fields.{tab, parts};
 ghost use Rattle.basis_lines.specs.Forms.{call_in, call_of};
 ghost use Rattle.parse_forms.specs.Commands.{Makes, if_count};
-ghost use Rattle.parse_command.specs.Words.{row_of, timed_call, word_call, start_of};
+ghost use Rattle.parse_command.specs.Words.{row_of, untimed_call, behind_word};
 
 use basis::{FRAME_LENGTH, Time};
 use basis_lines::LONGEST_LINE;
-use parse_forms::{Command, LARGEST, Parsed, TAB};
-use parse_numbers::Reading;
+use parse_forms::{LARGEST, Parsed, TAB};
+use parse_numbers::First;
 
 // The forms whose word a time follows.
 #[derive(Clone, Copy)]
@@ -22,96 +22,61 @@ enum Form {
     Drop,
 }
 
-// A line's first word, with its tab: that of a form with a time, and where its fields start; `fresh`; or any other.
-#[derive(Clone, Copy)]
-enum Word {
-    Timed { form: Form, start: usize },
-    Fresh,
-    Other,
-}
-
-// The most frequent first.
-fn word_of(line: &[u8]) -> Word
-    ensures line_value { call_in (parts tab line.now) ≡ word_call result line.now }
-    ensures result_in_bounds { start_of result ≤ length line.now }
+// The form of a line whose word a time follows, and what stands behind the word and its tab. The most frequent word first.
+fn timed_form(line: &[u8]) -> Option<(Form, &[u8])>
+    ensures { MatchOption result (call_in (parts tab line.now) ≡ untimed_call (parts tab line.now))
+        (λ found. call_in (parts tab line.now) ≡ behind_word found.0 found.1.now) }
 {
-    if parse_fields::begins(line, b"tick\t") {
-        Word::Timed {
-            form: Form::Tick,
-            start: 5,
-        }
-    } else if parse_fields::begins(line, b"packet\t") {
-        Word::Timed {
-            form: Form::Packet,
-            start: 7,
-        }
-    } else if parse_fields::begins(line, b"ask\t") {
-        Word::Timed {
-            form: Form::Ask,
-            start: 4,
-        }
-    } else if parse_fields::begins(line, b"drop\t") {
-        Word::Timed {
-            form: Form::Drop,
-            start: 5,
-        }
-    } else if parse_fields::begins(line, b"fresh\t") {
-        Word::Fresh
-    } else {
-        Word::Other
+    if let Some(rest) = line.strip_prefix(b"tick\t") {
+        return Some((Form::Tick, rest));
     }
-}
-
-// A command of a form that has no bytes.
-fn plain(command: Command) -> Parsed
-    ensures { (result.command ≡ command) × (result.count ≡ 0) }
-{
-    Parsed { command, count: 0 }
+    if let Some(rest) = line.strip_prefix(b"packet\t") {
+        return Some((Form::Packet, rest));
+    }
+    if let Some(rest) = line.strip_prefix(b"ask\t") {
+        return Some((Form::Ask, rest));
+    }
+    let rest = line.strip_prefix(b"drop\t")?;
+    Some((Form::Drop, rest))
 }
 
 // The fields behind the time, by the form's reader.
-fn read_fields(form: Form, time: Time, rest: &[u8], head: &mut [u8; FRAME_LENGTH]) -> Parsed
+fn read_fields(form: Form, time: Time, rest: &[u8], head: &mut [u8; FRAME_LENGTH]) -> Option<Parsed>
     ensures { Makes result head.new (if_count (row_of form).count ((row_of form).call time) ([] ∷ [] ∷ parts tab rest.now)) }
 {
     match form {
-        Form::Tick => plain(parse_forms::tick(time, rest)),
+        Form::Tick => parse_forms::tick(time, rest).map(Parsed::from),
         Form::Packet => parse_forms::packet(time, rest, head),
-        Form::Ask => plain(parse_forms::ask(time, rest)),
-        Form::Drop => plain(parse_forms::drop(time, rest)),
+        Form::Ask => parse_forms::ask(time, rest).map(Parsed::from),
+        Form::Drop => parse_forms::drop(time, rest).map(Parsed::from),
     }
 }
 
 // The fields behind the word: the time first.
-fn read_timed(form: Form, rest: &[u8], head: &mut [u8; FRAME_LENGTH]) -> Parsed
-    ensures { Makes result head.new (if_count (row_of form).count (timed_call (row_of form)) ([] ∷ parts tab rest.now)) }
+#[tactic(auto, using(crate::proofs::CommandLaws::time_ends))]
+fn read_timed(form: Form, rest: &[u8], head: &mut [u8; FRAME_LENGTH]) -> Option<Parsed>
+    ensures { Makes result head.new (behind_word form rest.now) }
 {
-    let first = parse_numbers::first_number(rest, TAB, LARGEST);
-    let end = first.length;
-    let reading = first.reading;
-    match reading {
-        Reading::Malformed => plain(Command::Malformed),
-        Reading::Number(time) => {
-            if end < rest.len() {
-                read_fields(form, Time(time), parse_fields::behind(rest, end), head)
-            } else {
-                plain(Command::Malformed)
-            }
-        },
-    }
+    let First {
+        value: time,
+        length,
+    } = parse_numbers::first_number(rest, TAB, LARGEST)?;
+    let fields = parse_fields::after(rest, length)?;
+    read_fields(form, Time(time), fields, head)
 }
 
 // The command of a line: what stands behind its first word is read by the word's form. The first bytes of a packet go to the
 // start of `head`.
-pub fn parse(line: &[u8], head: &mut [u8; FRAME_LENGTH]) -> Parsed
+#[tactic(auto, using(crate::proofs::CommandLaws::line_ends))]
+pub fn parse(line: &[u8], head: &mut [u8; FRAME_LENGTH]) -> Option<Parsed>
     ensures { Makes result head.new (call_of line.now) }
 {
     if LONGEST_LINE < line.len() {
-        plain(Command::Malformed)
-    } else {
-        match word_of(line) {
-            Word::Timed { form, start } => read_timed(form, parse_fields::rest(line, start), head),
-            Word::Fresh => plain(parse_forms::fresh(parse_fields::behind(line, 5))),
-            Word::Other => plain(Command::Malformed),
-        }
+        return None;
     }
+    if let Some((form, rest)) = timed_form(line) {
+        return read_timed(form, rest, head);
+    }
+    let rest = line.strip_prefix(b"fresh\t")?;
+    parse_forms::fresh(rest).map(Parsed::from)
 }

@@ -1,80 +1,15 @@
 -- Digits read one after the other: a law for each way that a function of src/ goes on or ends.
-use Prim.Native.Nat.{ℕ, suc, ◌+◌, ◌*◌, ◌<◌, ◌≤◌}
-use mathlib.Core.Path.{◌≡◌, refl, sym, ap, subst, ◌∙◌}
-use mathlib.Core.Bool.{Bool, true, false, not, true≢false}
-use mathlib.Core.List.{List, ◌∷◌}
+use Rattle.std.proofs.Common.{ℕ, suc, ◌+◌, ◌-◌, ◌*◌, ◌<◌, ◌≤◌, min, ◌≡◌, refl, sym, ap, subst, ◌∙◌, Bool, true, false, true≢false, List, ◌∷◌, length, get_or, take, drop, arith, add-one, Some, length-take}
 use native.Mathlib.Nat.{lt_of_lt_of_le, pow-succ', pow-le-pow_right}
-use native.Mathlib.Numerals.{add-one}
-use native.Mathlib.Omega.{arith}
-use mir.Syntax.{w64}
-use mir.Val.{Fits}
-use lib.Dec.{leb}
-use lib.ListN.{length, get_or, drop, get_or-eq_default}
-use lib.Seq.{drop-cons}
-use borrow.Author.Tests.{le-leb, lt-leb, leb-false, leb-true, ne_eqb, not-true, not-false}
+use lib.ListN.{get_or-eq_default}
+use lib.Seq.{drop-cons, get_or-take}
+use borrow.Author.Tests.{ne_eqb}
 use Rattle.basis.proofs.BytesLaws.{and_both}
-use Rattle.basis_lines.specs.Fields.{first_part}
-use Rattle.basis_lines.specs.Numbers.{is_digit, are_digits, value_after, largest}
+use Rattle.basis_lines.specs.Fields.{first_part, only}
+use Rattle.basis_lines.specs.Numbers.{is_digit, are_digits, value_after}
 use Rattle.basis_lines.proofs.FieldLaws.{first_other}
 use Rattle.basis_lines.proofs.NumberLaws.{digit_bounds}
 use Rattle.parse_digits.specs.LeadingDigits.{appended, is_next_digit, number_after, Begins, Read}
-
--- The test of a byte as the code makes it.
-module _ (b : ℕ) where
-  pub below_0 : b < 48 → false ≡ is_digit b
-  below_0 h = rw (lt-leb 48 b h)
-
-  pub from_0 : 48 ≤ b → leb b 57 ≡ is_digit b
-  from_0 h = rw (le-leb 48 b h)
-
--- A tenth of the largest: any digit has room behind a value below it.
-abbrev tenth : ℕ
-tenth = 1_844_674_407_370_955_161
-
--- The test of the next digit as the code makes it: no digit, or a value below, at or above the tenth.
-module _ (value b : ℕ) (digit : Bool) (told : digit ≡ is_digit b) where
-  pub no_digit : not digit ≡ true → false ≡ is_next_digit value b
-  no_digit e = rw (← told, not-true digit e)
-
-  module _ (is : not digit ≡ false) where
-    bounds : (48 ≤ b) × (b ≤ 57)
-    bounds = digit_bounds b (sym told ∙ not-false digit is)
-
-    fits : (t : Bool) → leb (appended value b) largest ≡ t → t ≡ is_next_digit value b
-    fits t e = rw (← told, not-false digit is, e)
-
-    pub below_tenth : value < tenth → true ≡ is_next_digit value b
-    below_tenth h = fits true (le-leb (appended value b) largest (omega (arith, bounds)))
-
-    pub at_tenth : value ≡ tenth → leb b 53 ≡ is_next_digit value b
-    at_tenth h = fits (leb b 53) (go (leb b 53) refl)
-      where
-        go : (t : Bool) → leb b 53 ≡ t → leb (appended value b) largest ≡ leb b 53
-        go true e = le-leb (appended value b) largest (omega (arith, bounds, leb-true b 53 e)) ∙ sym e
-        go false e = lt-leb (appended value b) largest (omega (arith, bounds, leb-false b 53 e)) ∙ sym e
-
-    pub above_tenth : tenth ≤ value → (value ≡ tenth → ⊥) → false ≡ is_next_digit value b
-    above_tenth h k = fits false (lt-leb (appended value b) largest (omega (arith, bounds, k)))
-
-pub ruleset next_digit = (no_digit, below_tenth, at_tenth, above_tenth)
-
--- A digit that passes the test: the new value fits.
-module _ (value b : ℕ) (next : is_next_digit value b ≡ true) where
-  range : ((48 ≤ b) × (b ≤ 57)) × (appended value b ≤ largest)
-  range =
-      let both = and_both (is_digit b) (leb (appended value b) largest) next in
-      (digit_bounds b both.0, leb-true (appended value b) largest both.1)
-
-  pub tenfold_fits : Fits w64 (10 * value)
-  tenfold_fits = record { fits = omega (arith, range) }
-
-  pub is_from_48 : 48 ≤ b
-  is_from_48 = range.0.0
-
-  pub sum_fits : Fits w64 (appended value b)
-  sum_fits = record { fits = omega (arith, range) }
-
-pub ruleset next_fits = (tenfold_fits, is_from_48, sum_fits)
 
 -- The first part of a text goes on with a digit, which is no separator.
 digit_first : (s b : ℕ) (text : List ℕ) → is_digit s ≡ false → is_digit b ≡ true → first_part s (b ∷ text) ≡ b ∷ first_part s text
@@ -106,68 +41,66 @@ module _ (text : List ℕ) where
               before.same_number s other most ∙ ap (number_after most value) (goes_on s other digit) ∙ rw digit;
         }
 
-    begins_more : is_next_digit value (get_or text i 0) ≡ true → (new : ℕ) → new ≡ appended value (get_or text i 0) → Begins text new (i + 1)
-    begins_more next new is = rw is (begins_digit (and_both (is_digit (get_or text i 0)) _ next).0)
-
 -- Where the digits end: at a byte that is no such digit, at the text's end, or as many as are read.
+no_digit : (value b : ℕ) → is_digit b ≡ false → is_next_digit value b ≡ false
+no_digit value b e = rw e
+
 no_byte : (text : List ℕ) (i value : ℕ) → length text ≤ i → is_next_digit value (get_or text i 0) ≡ false
 no_byte text i value h = ap (λ (b : ℕ). is_next_digit value b) (get_or-eq_default text 0 h)
 
 -- The loop: up to 19 digits, if the text has so many bytes.
-module _ (text : List ℕ) (value i : ℕ) (before : Begins text value i)
-    (most : ℕ) (limit : (most ≤ length text) × (most ≤ 19) × (most < 19 → most ≡ length text)) where
-  pub read_19 : i ≤ most → most ≤ i → Read 19 text value i
-  read_19 up down =
+module _ (text : List ℕ) (most value i : ℕ) (limit : most ≡ min (length text) 19) (before : Begins text value i) where
+  pub read_19 : length (take most text) ≤ i → i ≤ length (take most text) → Read 19 text value most
+  read_19 down up =
+      let all : i ≡ most = omega (arith, length-take most text) in
       record {
-        begins = before;
+        begins = subst (Begins text value) all before;
         at_most = omega arith;
-        stops = λ few. no_byte text i value (omega (arith, limit.2 (omega arith)));
+        stops = λ few. no_byte text most value (omega arith);
       }
 
-  module _ (more : i < most) (digit : Bool) (told : digit ≡ is_digit (get_or text i 0)) where
-    pub stops_19 : not digit ≡ true → Read 19 text value i
-    stops_19 is =
-        record { begins = before; at_most = omega arith; stops = λ few. sym (no_digit value (get_or text i 0) digit told is) }
+  module _ (more : i < length (take most text)) where
+    few : i < 19
+    few = omega (arith, length-take most text)
+
+    here : get_or (take most text) i 0 ≡ get_or text i 0
+    here = get_or-take most text i 0 (omega (arith, length-take most text))
 
     -- Behind less than 19 digits there is room for any other.
-    pub room : not digit ≡ false → is_next_digit value (get_or text i 0) ≡ true
-    room is =
-        let few : i ≤ 18 = omega arith in
-        let bound : value < 1_000_000_000_000_000_000
-        = lt_of_lt_of_le before.small (pow-le-pow_right {n = 10} (omega arith) few) in
-        sym (below_tenth value (get_or text i 0) digit told is (omega arith))
+    pub room : value < 1_000_000_000_000_000_000
+    room =
+        let most_digits : i ≤ 18 = omega (arith, few) in
+        lt_of_lt_of_le before.small (pow-le-pow_right {n = 10} (omega arith) most_digits)
 
-    pub goes_on_19 : not digit ≡ false → (new : ℕ) → new ≡ appended value (get_or text i 0) → Begins text new (i + 1)
-    goes_on_19 is = begins_more text value i before (omega arith) (room is)
+    pub stops_19 : is_digit (get_or (take most text) i 0) ≡ false → Read 19 text value i
+    stops_19 e =
+        record {
+          begins = before;
+          at_most = omega (arith, few);
+          stops = λ h. no_digit value (get_or text i 0) (ap is_digit (sym here) ∙ e);
+        }
 
-module _ (text : List ℕ) (value count : ℕ) (read : Read 19 text value count) where
-  pub read_fewer : count < 19 → Read 20 text value count
-  read_fewer few = record { begins = read.begins; at_most = omega arith; stops = λ h. read.stops few }
+    pub goes_on_19 : is_digit (get_or (take most text) i 0) ≡ true
+        → Begins text (10 * value + (get_or (take most text) i 0 - 48)) (i + 1)
+    goes_on_19 e =
+        rw here (begins_digit text value i before (omega (arith, length-take most text)) (ap is_digit (sym here) ∙ e))
 
-  module _ (all : 19 ≤ count) where
-    is_19 : count ≡ 19
-    is_19 = omega (arith, read.at_most)
+pub ruleset scanned = (begins_none, room, goes_on_19, stops_19, read_19)
 
-    pub read_ended : length text < 20 → Read 20 text value count
-    read_ended h =
-        record { begins = read.begins; at_most = omega (arith, is_19); stops = λ few. no_byte text count value (omega arith) }
+-- With a twentieth digit.
+only_some : (is : Bool) (a b : ℕ) → Some a ≡ only is b → (is ≡ true) × (a ≡ b)
+only_some true a b e = (refl, cc)
+only_some false a b e = cc
 
-    module _ (next : Bool) (told : next ≡ is_next_digit value (get_or text 19 0)) where
-      pub read_stopped : next ≡ false → Read 20 text value count
-      read_stopped e =
-          record {
-            begins = read.begins;
-            at_most = omega (arith, is_19);
-            stops = λ few. ap (λ k. is_next_digit value (get_or text k 0)) is_19 ∙ sym told ∙ e;
-          }
-
-      pub passes : next ≡ true → is_next_digit value (get_or text 19 0) ≡ true
-      passes e = sym told ∙ e
-
-      pub read_20 : next ≡ true → 20 ≤ length text → (new : ℕ) → new ≡ appended value (get_or text 19 0) → Read 20 text new 20
-      read_20 e long new is =
-          record {
-            begins = begins_more text value 19 (subst (Begins text value) is_19 read.begins) (omega arith) (passes e) new is;
-            at_most = omega arith;
-            stops = λ few. absurd (omega arith);
-          }
+pub read_20 : (text : List ℕ) (value count new : ℕ) → Read 19 text value count → 19 ≤ count → 20 ≤ length text
+    → Some new ≡ only (is_next_digit value (get_or text 19 0)) (appended value (get_or text 19 0)) → Read 20 text new 20
+read_20 text value count new read all long told =
+    let is_19 : count ≡ 19 = omega (arith, read.at_most) in
+    let next = only_some (is_next_digit value (get_or text 19 0)) new (appended value (get_or text 19 0)) told in
+    record {
+      begins = rw next.1
+          (begins_digit text value 19 (subst (Begins text value) is_19 read.begins) (omega arith)
+          (and_both (is_digit (get_or text 19 0)) _ next.0).0);
+      at_most = omega arith;
+      stops = λ few. absurd (omega arith);
+    }

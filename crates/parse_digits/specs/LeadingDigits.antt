@@ -1,6 +1,5 @@
 -- The digits that a text begins with, and the number that it stands for with more behind them.
-use Rattle.std.specs.Prelude.{ℕ, ◌+◌, ◌-◌, ◌*◌, ◌^◌, ◌≤◌, ◌<◌, ◌≡◌, Bool, false, ◌&&◌, List, leb, length, get_or, drop}
-use Rattle.std.proofs.Math.Option.{Option}
+use Rattle.std.specs.Prelude.{ℕ, ◌+◌, ◌-◌, ◌*◌, ◌^◌, ◌≤◌, ◌<◌, ◌≡◌, Bool, false, ◌&&◌, List, leb, length, get_or, drop, Option}
 use Rattle.basis_lines.specs.Fields.{first_part, only}
 use Rattle.basis_lines.specs.Numbers.{is_digit, are_digits, value_after, largest}
 

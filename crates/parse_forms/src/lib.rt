@@ -4,16 +4,14 @@
 // field that is read already.
 #![tactic(auto)]
 
-ghost use Rattle.std.specs.Prelude.{◌≤◌, ◌≡◌, [], ◌∷◌};
+ghost use Rattle.std.specs.Prelude.{◌≡◌, [], ◌∷◌};
 ghost use Rattle.basis_lines.specs.Fields.{tab, parts};
-ghost use Rattle.basis_lines.specs.Numbers.{largest_draw};
+ghost use Rattle.basis_lines.specs.Numbers.{number, largest_draw};
 ghost use Rattle.basis_lines.specs.Forms.{fresh_call, ask_at, tick_at, packet_at, drop_at};
-ghost use Rattle.parse_forms.specs.Commands.{asked, Makes, if_count, policy_at, draw_at};
+ghost use Rattle.parse_forms.specs.Commands.{asked, Makes, if_count};
 
-use basis::{Call, FRAME_LENGTH, Ipv4Address, Setup, Time};
-use parse_addresses::AddressReading;
-use parse_hex::{BytesReading, HardwareReading};
-use parse_numbers::Reading;
+use basis::{Call, FRAME_LENGTH, Setup, Time};
+use parse_numbers::First;
 
 pub const TAB: u8 = b'\t';
 
@@ -22,124 +20,88 @@ pub const LARGEST: u64 = 18_446_744_073_709_551_615;
 
 const LARGEST_DRAW: u64 = 4_294_967_295;
 
-// What a line asks for.
-#[derive(Clone, Copy)]
-pub enum Command {
-    Malformed,
-    Call(Call),
-}
-
-// It, with how many bytes of a packet stand at the start of a buffer that the caller lends: the first 28 at most.
+// What a line asks for, with how many bytes of a packet stand at the start of a buffer that the caller lends: the first 28 at most.
 #[derive(Clone, Copy)]
 pub struct Parsed {
-    pub command: Command,
+    pub call: Call,
     pub count: usize,
 }
 
-// `fresh` hardware.
-pub fn fresh(rest: &[u8]) -> Command
-    ensures { asked result [] ≡ if_count 2 fresh_call ([] ∷ parts tab rest.now) }
-{
-    match parse_hex::hardware(rest) {
-        HardwareReading::Malformed => Command::Malformed,
-        HardwareReading::Hardware(hardware) => Command::Call(Call::Fresh(Setup { hardware })),
+// A call that has no bytes.
+impl From<Call> for Parsed {
+    ghost from_gives = { λ call parsed. (parsed.call ≡ call) × (parsed.count ≡ 0) };
+
+    fn from(call: Call) -> Parsed {
+        Parsed { call, count: 0 }
     }
 }
 
-fn narrow(draw: u64) -> u32
-    requires { draw ≤ largest_draw }
-    ensures { result ≡ draw }
+// `fresh` hardware.
+#[tactic(auto, using(crate::proofs::FormsLaws::fresh_ends))]
+pub fn fresh(rest: &[u8]) -> Option<Call>
+    ensures { asked result ≡ if_count 2 fresh_call ([] ∷ parts tab rest.now) }
 {
-    draw as u32
+    let hardware = parse_hex::hardware(rest)?;
+    Some(Call::Fresh(Setup { hardware }))
+}
+
+// A draw, the last field.
+#[tactic(auto, using(crate::proofs::FormsLaws::draw_fits))]
+fn draw(last: &[u8]) -> Option<u32>
+    ensures { result ≡ number largest_draw last.now }
+{
+    let draw = parse_numbers::number(last, LARGEST_DRAW)?;
+    Some(draw as u32)
 }
 
 // `tick` time draw.
-pub fn tick(time: Time, last: &[u8]) -> Command
-    ensures { asked result [] ≡ if_count 3 (tick_at time) ([] ∷ [] ∷ parts tab last.now) }
+#[tactic(auto, using(crate::proofs::FormsLaws::tick_ends))]
+pub fn tick(time: Time, last: &[u8]) -> Option<Call>
+    ensures { asked result ≡ if_count 3 (tick_at time) ([] ∷ [] ∷ parts tab last.now) }
 {
-    match parse_numbers::number(last, LARGEST_DRAW) {
-        Reading::Malformed => Command::Malformed,
-        Reading::Number(draw) => Command::Call(Call::Tick {
-            time,
-            draw: narrow(draw),
-        }),
-    }
+    let draw = draw(last)?;
+    Some(Call::Tick { time, draw })
 }
 
 // `packet` time bytes.
-pub fn packet(time: Time, last: &[u8], head: &mut [u8; FRAME_LENGTH]) -> Parsed
+#[tactic(auto, using(crate::proofs::FormsLaws::packet_ends))]
+pub fn packet(time: Time, last: &[u8], head: &mut [u8; FRAME_LENGTH]) -> Option<Parsed>
     ensures { Makes result head.new (if_count 3 (packet_at time) ([] ∷ [] ∷ parts tab last.now)) }
 {
-    match parse_hex::bytes(last, head) {
-        BytesReading::Malformed => Parsed {
-            command: Command::Malformed,
-            count: 0,
-        },
-        BytesReading::Bytes(count) => Parsed {
-            command: Command::Call(Call::Packet { time }),
-            count,
-        },
-    }
+    let count = parse_hex::bytes(last, head)?;
+    Some(Parsed {
+        call: Call::Packet { time },
+        count,
+    })
 }
 
 // `drop` time slot.
-pub fn drop(time: Time, last: &[u8]) -> Command
-    ensures { asked result [] ≡ if_count 3 (drop_at time) ([] ∷ [] ∷ parts tab last.now) }
+#[tactic(auto, using(crate::proofs::FormsLaws::drop_ends))]
+pub fn drop(time: Time, last: &[u8]) -> Option<Call>
+    ensures { asked result ≡ if_count 3 (drop_at time) ([] ∷ [] ∷ parts tab last.now) }
 {
-    match parse_numbers::number(last, LARGEST) {
-        Reading::Malformed => Command::Malformed,
-        Reading::Number(slot) => Command::Call(Call::Drop { time, slot }),
-    }
+    let slot = parse_numbers::number(last, LARGEST)?;
+    Some(Call::Drop { time, slot })
 }
 
 // `ask` time address policy draw: one field read off the line after the other.
-fn ask_draw(time: Time, address: Ipv4Address, policy: u64, rest: &[u8]) -> Command
-    ensures { asked result [] ≡ if_count 5 (draw_at time address policy) ([] ∷ [] ∷ [] ∷ [] ∷ parts tab rest.now) }
-{
-    match parse_numbers::number(rest, LARGEST_DRAW) {
-        Reading::Malformed => Command::Malformed,
-        Reading::Number(n) => Command::Call(Call::Ask {
-            time,
-            address,
-            policy,
-            draw: narrow(n),
-        }),
-    }
-}
-
-fn ask_policy(time: Time, address: Ipv4Address, rest: &[u8]) -> Command
-    ensures { asked result [] ≡ if_count 5 (policy_at time address) ([] ∷ [] ∷ [] ∷ parts tab rest.now) }
-{
-    let third = parse_numbers::first_number(rest, TAB, LARGEST);
-    let end = third.length;
-    let reading = third.reading;
-    match reading {
-        Reading::Malformed => Command::Malformed,
-        Reading::Number(policy) => {
-            if end < rest.len() {
-                ask_draw(time, address, policy, parse_fields::behind(rest, end))
-            } else {
-                Command::Malformed
-            }
-        },
-    }
-}
-
-pub fn ask(time: Time, rest: &[u8]) -> Command
-    ensures { asked result [] ≡ if_count 5 (ask_at time) ([] ∷ [] ∷ parts tab rest.now) }
+#[tactic(auto, using(crate::proofs::FormsLaws::ask_ends))]
+pub fn ask(time: Time, rest: &[u8]) -> Option<Call>
+    ensures { asked result ≡ if_count 5 (ask_at time) ([] ∷ [] ∷ parts tab rest.now) }
 {
     let second = parse_fields::part(rest, TAB);
-    let end = second.len();
-    if end < rest.len() {
-        match parse_addresses::address(second) {
-            AddressReading::Malformed => Command::Malformed,
-            AddressReading::Address(address) => ask_policy(
-                time,
-                address,
-                parse_fields::behind(rest, end),
-            ),
-        }
-    } else {
-        Command::Malformed
-    }
+    let address = parse_addresses::address(second)?;
+    let rest = parse_fields::after(rest, second.len())?;
+    let First {
+        value: policy,
+        length,
+    } = parse_numbers::first_number(rest, TAB, LARGEST)?;
+    let last = parse_fields::after(rest, length)?;
+    let draw = draw(last)?;
+    Some(Call::Ask {
+        time,
+        address,
+        policy,
+        draw,
+    })
 }

@@ -3,7 +3,7 @@ use Prim.Native.Nat.{ℕ, zero, suc, ◌+◌, ◌-◌, ◌*◌, ◌/◌, ◌%◌
 use mathlib.Core.Path.{◌≡◌, refl, ap}
 use mathlib.Core.List.{List, [], ◌∷◌}
 use mathlib.Core.Bool.{Bool, true, false, cond, ◌&&◌, ◌||◌, and-false, and_assoc}
-use mathlib.Core.Option.{Option, some}
+use Rattle.std.specs.Prelude.{Option, Some}
 use native.Mathlib.Omega.{arith}
 use native.Mathlib.Nat.{suc-add}
 use lib.ListN.{length, get_or}
@@ -34,15 +34,15 @@ digit_only : (b : ℕ) → hex_digit b ≡ only (is_hex b) (value_of b)
 digit_only b = cases (is_digit b) refl (is_letter b) refl
   where
     cases : (digit : Bool) → is_digit b ≡ digit → (letter : Bool) → is_letter b ≡ letter →
-        cond digit (some (b - 48)) (only letter (b - 87)) ≡ only (digit || letter) (value_of b)
-    cases true d letter l = ap some (digit_value b d)
-    cases false d true l = ap some (letter_value b l)
+        cond digit (Some (b - 48)) (only letter (b - 87)) ≡ only (digit || letter) (value_of b)
+    cases true d letter l = ap Some (digit_value b d)
+    cases false d true l = ap Some (letter_value b l)
     cases false d false l = refl
 
 -- Two digits and what follows them.
 pair_only : {first second : Option ℕ} {rest : Option (List ℕ)} (high low more : Bool) (h l : ℕ) (bytes : List ℕ) →
     first ≡ only high h → second ≡ only low l → rest ≡ only more bytes →
-    (first then λ x. second then λ y. rest then λ bs. some ((x * 16 + y) ∷ bs))
+    (first then λ x. second then λ y. rest then λ bs. Some ((x * 16 + y) ∷ bs))
     ≡ only (high && (low && more)) ((h * 16 + l) ∷ bytes)
 pair_only true true true h l bytes p q r = rw (p, q, r)
 pair_only true true false h l bytes p q r = rw (p, q, r)

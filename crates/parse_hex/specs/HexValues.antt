@@ -1,21 +1,11 @@
 -- What the answers of src/ stand for, and what its inner functions promise one another: the bytes of a text that is hex. What is hex
 -- says the crate basis_lines.
-use Rattle.std.specs.Prelude.{ℕ, ◌+◌, ◌*◌, ◌%◌, cond, List, [], ◌∷◌, leb, take}
-use Rattle.std.proofs.Math.Option.{Option, none, some}
-use Rattle.basis.specs.declared.HardwareAddress.{HardwareAddress}
-use Rattle.parse_hex.specs.declared.HardwareReading.{HardwareReading}
-use Rattle.parse_hex.specs.declared.HardwareReading.TheVariants as hardware
-use Rattle.parse_hex.specs.declared.BytesReading.{BytesReading}
-use Rattle.parse_hex.specs.declared.BytesReading.TheVariants as bytes
-
-abbrev pub hardware_of : HardwareReading → Option HardwareAddress
-hardware_of hardware.Malformed = none
-hardware_of (hardware.Hardware h) = some h
+use Rattle.std.specs.Prelude.{ℕ, ◌+◌, ◌*◌, ◌%◌, cond, List, [], ◌∷◌, leb, take, Option, None, Some}
 
 -- The bytes stand at the start of the head that was lent for them.
-abbrev pub head_of : BytesReading → List ℕ → Option (List ℕ)
-head_of bytes.Malformed head = none
-head_of (bytes.Bytes n) head = some (take n head)
+abbrev pub head_of : Option ℕ → List ℕ → Option (List ℕ)
+head_of None head = None
+head_of (Some n) head = Some (take n head)
 
 -- A digit's value: its last four bits, and 9 more for a letter. Proved to be the one of `hex_digit` where there is one: `digit_only` in
 -- proofs/HexScan.antt. Any other byte has some value too, but no text with such a byte has bytes.

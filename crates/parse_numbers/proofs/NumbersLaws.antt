@@ -3,7 +3,7 @@ use Prim.Native.Nat.{ℕ, zero, suc, ◌<◌, ◌≤◌}
 use mathlib.Core.Path.{◌≡◌, refl, sym, ap, ◌∙◌}
 use mathlib.Core.Bool.{Bool, true, false, not, ◌&&◌, and-true, and-false, true≢false}
 use mathlib.Core.List.{List, [], ◌∷◌}
-use mathlib.Core.Option.{Option, none, some}
+use Rattle.std.specs.Prelude.{Option, None, Some}
 use mathlib.Core.Logic.{⊎_elim}
 use native.Mathlib.Nat.{eq-or-lt_of_le}
 use native.Mathlib.Omega.{arith}
@@ -16,7 +16,6 @@ use borrow.Author.Tests.{le-leb, lt-leb, leb-false, ltb-true, ltb-false}
 use Rattle.basis.proofs.BytesLaws.{and_both}
 use Rattle.basis_lines.specs.Fields.{tab, parts, first_part, only}
 use Rattle.basis_lines.specs.Numbers.{is_digit, are_digits, is_empty, is_numeral, value_after, number, largest}
-use Rattle.basis_lines.proofs.ReadingLaws.{none≢some}
 use Rattle.basis_lines.proofs.FieldLaws.{first_separator, first_other, first_take, first_length, one_part, separated}
 use Rattle.basis_lines.proofs.NumberLaws.{foreign_in_number, number_exact, decimal_at_most, value_grows}
 use Rattle.parse_digits.specs.LeadingDigits.{appended, is_next_digit, number_after, Read}
@@ -75,7 +74,7 @@ numeral [] = refl
 numeral (b ∷ text) = refl
 
 module _ (most : ℕ) (text : List ℕ) where
-  no_numeral : has_numeral_start text ≡ false → number most text ≡ none
+  no_numeral : has_numeral_start text ≡ false → number most text ≡ None
   unfolding number
   no_numeral e = rw (numeral text, e, and-false)
 
@@ -84,15 +83,15 @@ module _ (most : ℕ) (text : List ℕ) where
   numeral_number e = rw (numeral text, e, and-true)
 
   -- No number has more than 20 digits.
-  too_long : most ≤ largest → 20 < length text → number most text ≡ none
+  too_long : most ≤ largest → 20 < length text → number most text ≡ None
   too_long fits long = go (number most text) refl
     where
-      go : (read : Option ℕ) → number most text ≡ read → number most text ≡ none
-      go none e = e
-      go (some n) e = absurd (omega (arith, ap length (number_exact most text n fits e), decimal_at_most n))
+      go : (read : Option ℕ) → number most text ≡ read → number most text ≡ None
+      go None e = e
+      go (Some n) e = absurd (omega (arith, ap length (number_exact most text n fits e), decimal_at_most n))
 
 -- A byte that is no digit, or one too many, makes it none.
-next_none : (most value b : ℕ) (rest : List ℕ) → most ≤ largest → is_next_digit value b ≡ false → number_after most value (b ∷ rest) ≡ none
+next_none : (most value b : ℕ) (rest : List ℕ) → most ≤ largest → is_next_digit value b ≡ false → number_after most value (b ∷ rest) ≡ None
 unfolding number_after are_digits value_after
 next_none most value b rest fits stop = digit (is_digit b) refl
   where
@@ -102,7 +101,7 @@ next_none most value b rest fits stop = digit (is_digit b) refl
     over : largest < appended value b → leb all most ≡ false
     over k = lt-leb all most (omega (arith, value_grows (appended value b) rest, k))
 
-    digit : (t : Bool) → is_digit b ≡ t → only ((is_digit b && are_digits rest) && leb all most) all ≡ none
+    digit : (t : Bool) → is_digit b ≡ t → only ((is_digit b && are_digits rest) && leb all most) all ≡ None
     digit false k = rw k
     digit true k = rw (over (leb-false (appended value b) largest (rw k at stop)), and-false)
 
@@ -112,13 +111,13 @@ is_empty_lem (b ∷ text) e = absurd (true≢false (sym e))
 
 -- A text and its first part.
 module _ (s most : ℕ) (other : is_digit s ≡ false) (text : List ℕ) where
-  pub separator_in_number : length (first_part s text) < length text → number most text ≡ none
+  pub separator_in_number : length (first_part s text) < length text → number most text ≡ None
   separator_in_number more = ap (number most) (separated s text more) ∙ foreign_in_number most (first_part s text) s _ other
 
   whole_part : length (first_part s text) ≡ length text → first_part s text ≡ text
   whole_part whole = ap (λ ps. get_or ps 0 []) (one_part s text whole)
 
-  part_none : number most (first_part s text) ≡ none → number most text ≡ none
+  part_none : number most (first_part s text) ≡ None → number most text ≡ None
   part_none e =
       ⊎_elim (λ whole. ap (number most) (sym (whole_part whole)) ∙ e) separator_in_number (eq-or-lt_of_le (first_length s text))
 
@@ -150,7 +149,7 @@ module _ (s most : ℕ) (other : is_digit s ≡ false) (fits : Fits w64 most) (t
             ∙ sym (ap (λ t. only (leb value most && t) value) e ∙ ap (λ t. only t value) (and-true (leb value most)))
 
   -- It goes on.
-  more_none : is_empty (first_part s (drop count text)) ≡ false → number most (first_part s text) ≡ none
+  more_none : is_empty (first_part s (drop count text)) ≡ false → number most (first_part s text) ≡ None
   more_none more = by_count (ltb count 20) refl
     where
       inside : count < length text
@@ -165,7 +164,7 @@ module _ (s most : ℕ) (other : is_digit s ≡ false) (fits : Fits w64 most) (t
           ap (first_part s) (drop-cons text count 0 inside)
           ∙ first_other s (get_or text count 0) (drop (suc count) text) (byte_end text count s inside ∙ more)
 
-      by_start : is_next_digit value (get_or text count 0) ≡ false → (t : Bool) → has_numeral_start (first_part s text) ≡ t → number most (first_part s text) ≡ none
+      by_start : is_next_digit value (get_or text count 0) ≡ false → (t : Bool) → has_numeral_start (first_part s text) ≡ t → number most (first_part s text) ≡ None
       by_start stop false e = no_numeral most (first_part s text) e
       by_start stop true e =
           numeral_number most (first_part s text) e
@@ -173,7 +172,7 @@ module _ (s most : ℕ) (other : is_digit s ≡ false) (fits : Fits w64 most) (t
           ∙ ap (number_after most value) left
           ∙ next_none most value (get_or text count 0) (first_part s (drop (suc count) text)) (omega (arith, fits.fits)) stop
 
-      by_count : (t : Bool) → ltb count 20 ≡ t → number most (first_part s text) ≡ none
+      by_count : (t : Bool) → ltb count 20 ≡ t → number most (first_part s text) ≡ None
       by_count true e = by_start (read.stops (ltb-true count 20 e)) (has_numeral_start (first_part s text)) refl
       by_count false e =
           too_long most (first_part s text) (omega (arith, fits.fits))
@@ -184,32 +183,28 @@ module _ (s most : ℕ) (other : is_digit s ≡ false) (fits : Fits w64 most) (t
     both : is ≡ true → (is_number text value count most ≡ true) × (is_empty (first_part s (drop count text)) ≡ true)
     both e = and_both (is_number text value count most) _ (sym told ∙ e)
 
-    pub first_read : is ≡ true → some value ≡ number most (first_part s text)
+    pub first_read : is ≡ true → Some value ≡ number most (first_part s text)
     first_read e = sym (part_number (both e).1 ∙ ap (λ t. only t value) (both e).0)
 
-    pub first_ends : is ≡ true → count ≡ length (first_part s text)
-    first_ends e = part_length (both e).1
+    pub first_length_read : is ≡ true → count ≡ length (first_part s text)
+    first_length_read e = part_length (both e).1
 
-    pub first_refused : is ≡ false → none ≡ number most (first_part s text)
+    pub first_refused : is ≡ false → None ≡ number most (first_part s text)
     first_refused e = sym (go (is_empty (first_part s (drop count text))) refl)
       where
-        go : (t : Bool) → is_empty (first_part s (drop count text)) ≡ t → number most (first_part s text) ≡ none
+        go : (t : Bool) → is_empty (first_part s (drop count text)) ≡ t → number most (first_part s text) ≡ None
         go true end =
             part_number end
             ∙ ap (λ t. only t value)
             (sym (ap (λ t. is_number text value count most && t) end ∙ and-true (is_number text value count most)) ∙ sym told ∙ e)
         go false more = more_none more
 
--- Nothing is said of a malformed part's length.
-pub no_end : (end length : ℕ) (n : ℕ) → ◌≡◌ {A = Option ℕ} none (some n) → end ≡ length
-no_end end length n e = absurd (none≢some e)
-
 -- All of a text, as its part before the first tab: there is none in a number.
 module _ (most : ℕ) (fits : Fits w64 most) (text : List ℕ) (value count : ℕ) (read : Read 20 text value count) where
-  pub more_read : count < length text → none ≡ number most text
+  pub more_read : count < length text → None ≡ number most text
   more_read more = sym (go (is_empty (first_part tab (drop count text))) refl)
     where
-      go : (t : Bool) → is_empty (first_part tab (drop count text)) ≡ t → number most text ≡ none
+      go : (t : Bool) → is_empty (first_part tab (drop count text)) ≡ t → number most text ≡ None
       go true end = separator_in_number tab most refl text (omega (arith, part_length tab most refl fits text value count read end))
       go false on = part_none tab most refl text (more_none tab most refl fits text value count read on)
 
@@ -222,8 +217,21 @@ module _ (most : ℕ) (fits : Fits w64 most) (text : List ℕ) (value count : �
         ∙ part_number tab most refl fits text value count read end
         ∙ ap (λ t. only t value) (sym told)
 
-    pub whole_read : is ≡ true → some value ≡ number most text
+    pub whole_read : is ≡ true → Some value ≡ number most text
     whole_read e = sym (whole ∙ ap (λ t. only t value) e)
 
-    pub whole_refused : is ≡ false → none ≡ number most text
+    pub whole_refused : is ≡ false → None ≡ number most text
     whole_refused e = sym (whole ∙ ap (λ t. only t value) e)
+
+-- Each way that a function ends.
+pub ruleset end_ends = (byte_end, text_end)
+
+pub ruleset start_ends = (short_start, long_start)
+
+pub ruleset number_ends = (too_large, small_enough)
+
+pub ruleset first_ends = (no_first, first_if_end)
+
+pub ruleset first_number_ends = (first_read, first_length_read, first_refused)
+
+pub ruleset whole_ends = (more_read, whole_read, whole_refused)

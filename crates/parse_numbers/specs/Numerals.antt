@@ -1,13 +1,7 @@
 -- What a reading stands for, and the tests of a number.
 use Rattle.std.specs.Prelude.{ℕ, Bool, false, not, ◌&&◌, ◌||◌, List, [], ◌∷◌, eqb, leb, take, drop}
-use Rattle.std.proofs.Math.Option.{Option, none, some}
 use Rattle.basis_lines.specs.Fields.{first_part}
 use Rattle.basis_lines.specs.Numbers.{is_empty}
-use Rattle.parse_numbers.specs.declared.Reading.{Reading}
-
-abbrev pub reading_of : Reading → Option ℕ
-reading_of Reading.Malformed = none
-reading_of (Reading.Number n) = some n
 
 -- Whether a text is not empty and begins with a 0 only if that is all of it: what `is_numeral` asks besides digits.
 abbrev pub has_numeral_start : List ℕ → Bool

@@ -1,2 +1,2 @@
-pub mod Puts
-pub mod Fields
+-- What the functions' proofs cite.
+mod Texts

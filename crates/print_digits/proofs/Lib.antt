@@ -1,2 +1,2 @@
-pub mod Digits
-pub mod Puts
+-- What the functions' proofs cite.
+mod Digits

@@ -1,28 +1,37 @@
 // How an accepted answer begins: `ok` and the kind's word.
 #![tactic(auto)]
 
-ghost use Rattle.std.specs.Prelude.{◌≤◌, ◌∷◌, ◌++◌, length};
+ghost use Rattle.std.specs.Prelude.{◌≤◌, ◌≡◌, ◌∷◌, ◌++◌, length};
 ghost use Rattle.basis.specs.Answers.{kind_word};
 ghost use Rattle.basis_lines.specs.Fields.{tab};
-ghost use Rattle.basis_lines.specs.Answers.{ok_word};
-ghost use Rattle.print_digits.specs.Put.{Put};
+ghost use Rattle.basis_lines.specs.Answers.{ok_word, written};
 
 use basis::Kind;
 
-// Puts them at the start, and answers the place after them. Each kind puts a text of its own, whose length the compiler knows.
-pub fn put_kind(kind: Kind, out: &mut [u8]) -> usize
-    requires { 11 ≤ length out.old }
-    ensures { Put (ok_word ++ (tab ∷ kind_word kind)) 11 0 out.old out.new result }
+#[tactic(auto, unfolding(basis::specs::Answers::kind_word))]
+fn beginning(kind: Kind) -> &'static [u8]
+    ensures value { result.now ≡ ok_word ++ (tab ∷ kind_word kind) }
+    ensures most { length result.now ≤ 11 }
 {
     match kind {
-        Kind::Fresh => print_digits::put(b"ok\tfresh", out, 0),
-        Kind::Taken => print_digits::put(b"ok\ttaken", out, 0),
-        Kind::Nothing => print_digits::put(b"ok\tnone", out, 0),
-        Kind::Probe => print_digits::put(b"ok\tprobe", out, 0),
-        Kind::Announce => print_digits::put(b"ok\tannounce", out, 0),
-        Kind::Defend => print_digits::put(b"ok\tdefend", out, 0),
-        Kind::Lost => print_digits::put(b"ok\tlost", out, 0),
-        Kind::Kept => print_digits::put(b"ok\tkept", out, 0),
-        Kind::Dropped => print_digits::put(b"ok\tdropped", out, 0),
+        Kind::Fresh => b"ok\tfresh",
+        Kind::Taken => b"ok\ttaken",
+        Kind::Nothing => b"ok\tnone",
+        Kind::Probe => b"ok\tprobe",
+        Kind::Announce => b"ok\tannounce",
+        Kind::Defend => b"ok\tdefend",
+        Kind::Lost => b"ok\tlost",
+        Kind::Kept => b"ok\tkept",
+        Kind::Dropped => b"ok\tdropped",
     }
+}
+
+// Puts them at the start of a buffer, and answers how many bytes that is.
+pub fn put_kind(kind: Kind, out: &mut [u8]) -> usize
+    requires { 11 ≤ length out.old }
+    ensures value { result ≡ length (ok_word ++ (tab ∷ kind_word kind)) }
+    ensures most { result ≤ 11 }
+    ensures out_after { out.new ≡ written (ok_word ++ (tab ∷ kind_word kind)) out.old }
+{
+    print_digits::put(beginning(kind), out)
 }

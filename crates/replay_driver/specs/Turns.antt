@@ -1,7 +1,12 @@
 -- What a turn of the loop leaves: the stream, how many bytes are held, whether it waits and goes on, and the input buffer.
-use Rattle.std.specs.Prelude.{ℕ, ◌≤◌, ◌≡◌, Bool, true, false, List, length, take}
+use Rattle.std.specs.Prelude.{ℕ, ◌≤◌, ◌≡◌, Bool, true, false, List, length, take, Result, Ok, Err}
 use Rattle.basis_lines.specs.declared.Stream.{Stream}
 use Rattle.basis_lines.specs.Stream.{work, kept, kept_length}
+
+-- Whether the replay goes on after a turn.
+abbrev pub goes_on : {E : Type 0} → Result Bool E → Bool
+goes_on (Ok going) = going
+goes_on (Err why) = false
 
 -- A turn that waits for more: the stream and what is held stay. If it goes on, it has at least as much, within the buffer, and no
 -- longer waits.

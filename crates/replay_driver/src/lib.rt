@@ -8,200 +8,161 @@
 // error alone.
 #![tactic(auto)]
 
-ghost use Rattle.std.specs.Prelude.{◌≤◌, ◌≡◌, true, false, length, take};
+ghost use Rattle.std.specs.Prelude.{◌≤◌, ◌≡◌, true, false, length, take, Result, Err};
 ghost use Rattle.basis_engine.specs.Interface.{zeros};
 ghost use Rattle.basis_lines.specs.Stream.{at_line_start};
-ghost use Rattle.replay_driver.specs.Turns.{Waited, Worked};
+ghost use Rattle.replay_driver.specs.Turns.{goes_on, Waited, Worked};
 
 use basis_lines::Stream;
-use std::io::{Error, ErrorKind, Read};
+use std::fmt;
+use std::io::{self, Error, ErrorKind, Read};
+
+// Room for a read of 65,536 bytes behind the 4,096 that may be held.
+const INPUT_LENGTH: usize = 69_632;
+
+const OUT_LENGTH: usize = 262_144;
+
+// Why the replay stops before the end of its input.
+#[derive(Clone, Copy)]
+enum Stopped {
+    Reading(Error),
+    Writing(Error),
+}
+
+impl fmt::Display for Stopped {
+    fn fmt<W: fmt::Write>(&self, f: &mut fmt::Formatter<W>) -> fmt::Result {
+        match self {
+            Stopped::Reading(why) => write!(f, "cannot read standard input: {why}"),
+            Stopped::Writing(why) => write!(f, "cannot write standard output: {why}"),
+        }
+    }
+}
+
+fn write(rt: &impl Print, out: &[u8], count: usize) -> Result<(), Stopped> {
+    rt.write_all(parse_fields::start(out, count))
+        .map_err(Stopped::Writing)
+}
 
 // Where the replay stands: `held` bytes at the start of the input buffer are not used up, and are to be worked on again unless it
-// is waiting for more. `going` is false once it is over.
-#[derive(Clone, Copy)]
-struct Turn {
+// is waiting for more.
+#[derive(Drop)]
+struct Replay {
     stream: Stream,
+    input: [u8; INPUT_LENGTH],
     held: usize,
     waiting: bool,
-    going: bool,
+    ghost within: { held ≤ 69_632 },
 }
 
-fn over(stream: Stream) -> Turn
-    ensures { (result.stream ≡ stream) × (result.going ≡ false) }
-{
-    Turn {
-        stream,
-        held: 0,
-        waiting: true,
-        going: false,
+impl Replay {
+    fn new() -> Self
+        ensures { (result.stream ≡ at_line_start zeros) × (result.held ≡ 0) }
+    {
+        Replay {
+            stream: replay_stream::begin(),
+            input: [0; INPUT_LENGTH],
+            held: 0,
+            waiting: true,
+        }
     }
-}
 
-// Says on standard error why the replay stops. Where that cannot be said either, it stops all the same.
-fn say_stopped(rt: &impl Eprint, what: &str, why: Error) {
-    let _ = eprintln!(rt; "replay: stopped: cannot {what}: {why}");
-}
+    fn held(&self) -> &[u8]
+        ensures { result.now ≡ take self.now.held self.now.input }
+    {
+        &self.input[..self.held]
+    }
 
-// Writes answers, and says why where it cannot, but for a pipe that nobody reads any more.
-fn write(rt: &(impl Print + Eprint), out: &[u8], count: usize) -> bool {
-    match rt.write_all(parse_fields::start(out, count)) {
-        Ok(()) => true,
-        Err(why) if why.kind() == ErrorKind::BrokenPipe => false,
-        Err(why) => {
-            say_stopped(rt, "write standard output", why);
-            false
+    // Answers the lines at hand. What is not used up moves to the start of the buffer.
+    fn answer(&mut self, rt: &impl Print, out: &mut [u8]) -> Result<(), Stopped>
+        ensures { Worked self.old.stream self.old.held (length out.old) self.old.input self.new.stream self.new.held self.new.waiting self.new.input }
+    {
+        let worked = replay_stream::work(self.stream, self.held(), out);
+        self.stream = worked.stream;
+        self.held = replay_stream::keep(&mut self.input, worked.used, self.held);
+        self.waiting = worked.waiting;
+        write(rt, out, worked.written)
+    }
+
+    // The input ended.
+    fn end(&self, rt: &impl Print, out: &mut [u8]) -> Result<(), Stopped> {
+        let written = replay_stream::finish(self.stream, self.held(), out);
+        write(rt, out, written.unwrap_or(0))
+    }
+
+    // Reads behind what is held, and answers how many bytes. There is always room, since no more than 4,096 bytes are held: the test
+    // keeps a read into no room from being taken for the end.
+    fn read(&mut self, source: &mut impl Read) -> io::Result<usize>
+        ensures stream_stays { self.new.stream ≡ self.old.stream }
+        ensures held_le_held { self.old.held ≤ self.new.held }
+        ensures input_unchanged { take self.old.held self.new.input ≡ take self.old.held self.old.input }
+    {
+        if self.held == INPUT_LENGTH {
+            return Err(Error::other("the buffer has no room"));
+        }
+        let count = source.read(&mut self.input[self.held..])?;
+        self.held += count;
+        Ok(count)
+    }
+
+    // Reads more, or comes to the end. Answers whether the replay goes on.
+    fn read_more(
+        &mut self,
+        rt: &impl Print,
+        source: &mut impl Read,
+        out: &mut [u8],
+    ) -> Result<bool, Stopped>
+        ensures { Waited self.old.stream self.old.held self.old.input self.new.stream self.new.held self.new.waiting (goes_on result) self.new.input }
+    {
+        let count = self.read(source).map_err(Stopped::Reading)?;
+        if count == 0 {
+            self.end(rt, out)?;
+            return Ok(false);
+        }
+        self.waiting = false;
+        Ok(true)
+    }
+
+    // One turn: a read where it waits for more, else the lines at hand. Answers whether the replay goes on.
+    fn turn(
+        &mut self,
+        rt: &impl Print,
+        source: &mut impl Read,
+        out: &mut [u8; OUT_LENGTH],
+    ) -> Result<bool, Stopped>
+        ensures waited { self.old.waiting ≡ true → Waited self.old.stream self.old.held self.old.input self.new.stream self.new.held self.new.waiting (goes_on result) self.new.input }
+        ensures worked { self.old.waiting ≡ false → Worked self.old.stream self.old.held (length out.old) self.old.input self.new.stream self.new.held self.new.waiting self.new.input }
+    {
+        if self.waiting {
+            self.read_more(rt, source, out)
+        } else {
+            self.answer(rt, out)?;
+            Ok(true)
         }
     }
 }
 
-// Answers the lines at hand. What is not used up moves to the start of the buffer.
-fn answer(
-    rt: &(impl Print + Eprint),
-    stream: Stream,
-    input: &mut [u8],
-    held: usize,
-    out: &mut [u8],
-) -> Turn
-    ensures { Worked stream held (length out.old) input.old result.stream result.held result.waiting input.new }
-{
-    let worked = replay_stream::work(stream, parse_fields::start(input, held), out);
-    let next = worked.stream;
-    let going = write(rt, out, worked.written);
-    Turn {
-        stream: next,
-        held: replay_stream::keep(input, worked.used, held),
-        waiting: worked.waiting,
-        going,
-    }
-}
-
-// The input ended.
-fn end(
-    rt: &(impl Print + Eprint),
-    stream: Stream,
-    input: &[u8],
-    held: usize,
-    out: &mut [u8],
-) -> Turn
-    ensures { (result.stream ≡ stream) × (result.going ≡ false) }
-{
-    let finished = replay_stream::finish(stream, parse_fields::start(input, held), out);
-    write(rt, out, finished.written);
-    over(stream)
-}
-
-// What a read brought: how many bytes are held then, whether the input ended, and why the read failed, if it did.
-#[derive(Clone, Copy)]
-struct Got {
-    held: usize,
-    ended: bool,
-    failed: Option<Error>,
-}
-
-fn failed(held: usize, why: Error) -> Got
-    ensures held_stays { result.held ≡ held }
-    ensures has_failed { result.failed ≡ Some why }
-{
-    Got {
-        held,
-        ended: false,
-        failed: Some(why),
-    }
-}
-
-// Reads behind what is held. There is always room, since no more than 4,096 bytes are held; the test only makes the part safe.
-fn read(source: &mut impl Read, input: &mut [u8], held: usize) -> Got
-    ensures held_le_held { held ≤ result.held }
-    ensures held_in_bounds { result.failed ≡ None → result.held ≤ length input.old }
-    ensures input_unchanged { take held input.new ≡ take held input.old }
-{
-    if input.len() <= held {
-        return failed(held, Error::other("the buffer has no room"));
-    }
-    let room = &mut input[held..];
-    match source.read(room) {
-        Ok(count) => Got {
-            held: held + count,
-            ended: count == 0,
-            failed: None,
-        },
-        Err(why) => failed(held, why),
-    }
-}
-
-// Reads more, or comes to the end.
-fn read_more(
-    rt: &(impl Print + Eprint),
-    source: &mut impl Read,
-    stream: Stream,
-    input: &mut [u8],
-    held: usize,
-    out: &mut [u8],
-) -> Turn
-    ensures { Waited stream held input.old result.stream result.held result.waiting result.going input.new }
-{
-    let got = read(source, input, held);
-    match got.failed {
-        Some(why) => {
-            say_stopped(rt, "read standard input", why);
-            over(stream)
-        }
-        None => {
-            if got.ended {
-                end(rt, stream, input, held, out)
-            } else {
-                Turn {
-                    stream,
-                    held: got.held,
-                    waiting: false,
-                    going: true,
-                }
-            }
-        }
-    }
-}
-
-// One turn: a read where it waits for more, else the lines at hand.
-fn take_turn(
-    rt: &(impl Print + Eprint),
-    source: &mut impl Read,
-    from: Turn,
-    input: &mut [u8; 69_632],
-    out: &mut [u8; 262_144],
-) -> Turn
-    ensures waited { from.waiting ≡ true → Waited from.stream from.held input.old result.stream result.held result.waiting result.going input.new }
-    ensures worked { from.waiting ≡ false → Worked from.stream from.held (length out.old) input.old result.stream result.held result.waiting input.new }
-{
-    let stream = from.stream;
-    if from.waiting {
-        read_more(rt, source, stream, input, from.held, out)
-    } else {
-        answer(rt, stream, input, from.held, out)
-    }
-}
-
-fn begin() -> Turn
-    ensures { (result.stream ≡ at_line_start zeros) × (result.held ≡ 0) }
-{
-    Turn {
-        stream: replay_stream::begin(),
-        held: 0,
-        waiting: true,
-        going: true,
-    }
-}
-
-// The whole replay. The input buffer has room for a read of 65,536 bytes behind the 4,096 that may be held. A proved loop has to
-// end: it counts to a number that no input reaches.
-pub fn run(rt: &(impl Input + Print + Eprint)) {
+// The turns, one after the other.
+fn turns(rt: &(impl Input + Print)) -> Result<(), Stopped> {
     let mut source = rt.reader();
-    let mut input = [0u8; 69_632];
-    let mut out = [0u8; 262_144];
-    let mut now = begin();
+    let mut replay = Replay::new();
+    let mut out = [0; OUT_LENGTH];
+    // By hand: a proved loop has to end, so it counts to a number that no input reaches.
     for _ in 0..u64::MAX {
-        if !now.going {
+        if !replay.turn(rt, &mut source, &mut out)? {
             break;
         }
-        now = take_turn(rt, &mut source, now, &mut input, &mut out);
+    }
+    Ok(())
+}
+
+// The whole replay.
+pub fn run(rt: &(impl Input + Print + Eprint)) {
+    match turns(rt) {
+        Ok(()) => {}
+        Err(Stopped::Writing(why)) if why.kind() == ErrorKind::BrokenPipe => {}
+        Err(stopped) => {
+            // Where that cannot be said either, it stops all the same.
+            let _ = eprintln!(rt; "replay: stopped: {stopped}");
+        }
     }
 }

@@ -6,6 +6,7 @@ ghost use Rattle.basis_lines.specs.Answers.{has_room, written, line_answer};
 
 use basis::Interface;
 use basis_lines::{AnsweredLine, LONGEST_ANSWER};
+use engine_admission::Judged;
 
 // Answers a line: its call is made on the state, and the answer's text goes to the start of the out buffer. Where the longest
 // answer would have no room, nothing is done and `written` is 0, which it is at no other time: no answer is empty.
@@ -15,9 +16,7 @@ pub fn answer(state: Interface, line: &[u8], out: &mut [u8]) -> AnsweredLine
     ensures out_after { out.new ≡ cond (has_room out.old) (written (line_answer state line.now).text out.old) out.old }
 {
     if out.len() < LONGEST_ANSWER {
-        AnsweredLine { state, written: 0 }
-    } else {
-        let sound = engine_soundness::is_sound(state);
-        replay_command::answer_line(state, sound, false, line, out)
+        return AnsweredLine { state, written: 0 };
     }
+    replay_command::answer_line(&Judged::new(state), false, line, out)
 }

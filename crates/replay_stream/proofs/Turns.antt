@@ -4,11 +4,13 @@ use mathlib.Core.Path.{◌≡◌, refl, ap, sym, subst, ◌∙◌}
 use mathlib.Core.Bool.{Bool, true, false, cond, ◌||◌}
 use mathlib.Core.List.{List, [], ◌++◌, append-nil}
 use borrow.Author.Tests.{lt-ltb, le-ltb}
+use borrow.Rule.Slice.PartMut.{put_mid}
 use native.Mathlib.Numerals.{add-one}
 use native.Mathlib.Omega.{arith}
 use lib.Dec.{ltb}
-use lib.ListN.{length, take, drop, length-drop, take-append-drop}
-use lib.Seq.{length-take-le, drop-drop}
+use lib.ListN.{length, take, drop, length-append, length-drop}
+use lib.Seq.{drop-drop}
+use Rattle.std.proofs.lemmas.Grind.{common_steps}
 use Rattle.basis.specs.Answers.{refusal_number}
 use Rattle.basis.specs.declared.Refusal.TheVariants.{LineMalformed}
 use Rattle.basis.specs.declared.Interface.{Interface}
@@ -20,27 +22,27 @@ use Rattle.basis_lines.specs.Forms.{longest_line}
 use Rattle.basis_lines.specs.Stream.{Work, ended_answer, at_line_start, wait, afterwards, work}
 use Rattle.basis_lines.proofs.AnswerLaws.{refused_at_most, longest_answer_lem, line_stays_sound}
 use Rattle.basis_lines.proofs.FieldLaws.{first_length}
-use Rattle.basis_lines.proofs.StreamLaws.{afterwards_nothing, afterwards_twice, line_done, work_line, work_wait}
-use Rattle.replay_stream.proofs.Places.{written_at, take_written, drop_written, length_written}
+use Rattle.basis_lines.proofs.StreamLaws.{afterwards_twice, line_done, work_line, work_wait}
+use Rattle.replay_call.specs.AnswerText.{Gives}
 
--- What holds after some lines: how far the loop is in the input and in the out buffer, and that the whole work is what was
--- written, then the work on the rest.
-pub record Turns (st₀ : Stream) (input out₀ : List ℕ) (st : Stream) (at done : ℕ) (out : List ℕ) : Type 0 where
-  pub within : at ≤ length input
-  pub room : done ≤ length out₀
-  pub sized : length out ≡ length out₀
-  pub untouched : drop done out ≡ drop done out₀
-  pub so_far : work st₀ input (length out₀) ≡ afterwards at (take done out) (work st (drop at input) (length out₀ - done))
+-- A text written at the start of a buffer, which stays as long.
+length_written : (text old : List ℕ) → length text ≤ length old → length (written text old) ≡ length old
+length_written text old fits = omega (arith, length-append text (drop (length text) old), length-drop (length text) old)
 
-pub begins : (st : Stream) (input out : List ℕ) → Turns st input out st 0 0 out
-begins st input out =
-    record {
-      within = omega arith;
-      room = omega arith;
-      sized = refl;
-      untouched = refl;
-      so_far = sym (afterwards_nothing (work st input (length out))) ∙ ap (λ n. afterwards 0 [] (work st input n)) (omega arith);
-    }
+-- A text more, in the rest of the buffer.
+part_written : (a b old : List ℕ) → length a + length b ≤ length old → let before = written a old in let room = length before - length a in
+    put_mid (length a) room before (written b (take room (drop (length a) before))) ≡ written (a ++ b) old
+part_written a b old fits = grind (arith, common_steps)
+
+-- What holds after some lines: how far the loop is in the input, the text that it wrote into the out buffer, and that the whole
+-- work is that text, then the work on the rest.
+pub record Turns (st₀ : Stream) (input out₀ : List ℕ) (st : Stream) (used count : ℕ) (out : List ℕ) : Type 0 where
+  pub within : used ≤ length input
+  pub room : count ≤ length out₀
+  pub text : List ℕ
+  pub counted : count ≡ length text
+  pub wrote : out ≡ written text out₀
+  pub so_far : work st₀ input (length out₀) ≡ afterwards used text (work st (drop used input) (length out₀ - count))
 
 -- A line that byte 10 ended comes next.
 line_next : (st : Stream) (line input : List ℕ) (room : ℕ)
@@ -99,31 +101,34 @@ used_by_test false at n all e = omega arith
 
 -- What the loop leaves: the parts of a work, and its text written.
 abbrev pub Left : Work → Stream → ℕ → ℕ → Bool → List ℕ → List ℕ → Type 0
-Left w stream used done waiting out₀ out =
-    (stream ≡ w.stream)
-    × ((used ≡ w.used) × ((done ≡ length w.text) × ((waiting ≡ w.waiting) × (out ≡ written w.text out₀))))
+Left w stream used count waiting out₀ out =
+    record {
+      stream_value : stream ≡ w.stream;
+      used_value : used ≡ w.used;
+      written_value : count ≡ length w.text;
+      waiting_value : waiting ≡ w.waiting;
+      out_after : out ≡ written w.text out₀;
+    }
 
-module _ {st₀ : Stream} {input out₀ : List ℕ} {st : Stream} {at done : ℕ} {out : List ℕ} (t : Turns st₀ input out₀ st at done out) where
+module _ {st₀ : Stream} {input out₀ : List ℕ} {st : Stream} {at count : ℕ} {out : List ℕ} (t : Turns st₀ input out₀ st at count out) where
+  -- The out buffer is as long as before.
+  pub sized : length out ≡ length out₀
+  sized = ap length t.wrote ∙ length_written t.text out₀ (omega (arith, t.room, t.counted))
+
   left : {stream : Stream} {used more : ℕ} {waiting : Bool}
-      → work st (drop at input) (length out₀ - done) ≡ record { stream = stream; used = more; text = []; waiting = waiting }
+      → work st (drop at input) (length out₀ - count) ≡ record { stream = stream; used = more; text = []; waiting = waiting }
       → used ≡ at + more
-      → Left (work st₀ input (length out₀)) stream used done waiting out₀ out
+      → Left (work st₀ input (length out₀)) stream used count waiting out₀ out
   left e used_is =
-      let whole = t.so_far ∙ ap (afterwards at (take done out)) e in
-      let text_is : (work st₀ input (length out₀)).text ≡ take done out = ap (λ w. w.text) whole ∙ append-nil (take done out) in
-      let length_is : length (take done out) ≡ done = length-take-le done out (omega (arith, t.room, t.sized)) in
-      let out_is : out ≡ written (take done out) out₀ =
-      sym (take-append-drop done out)
-      ∙ ap (λ l. take done out ++ l) (t.untouched ∙ ap (λ n. drop n out₀) (sym length_is)) in (
-        sym (ap (λ w. w.stream) whole),
-        (
-          used_is ∙ sym (ap (λ w. w.used) whole),
-          (
-            sym (ap length text_is ∙ length_is),
-            (sym (ap (λ w. w.waiting) whole), out_is ∙ ap (λ l. written l out₀) (sym text_is)),
-          ),
-        ),
-      )
+      let whole = t.so_far ∙ ap (afterwards at t.text) e in
+      let text_is : (work st₀ input (length out₀)).text ≡ t.text = ap (λ w. w.text) whole ∙ append-nil t.text in
+      record {
+        stream_value = sym (ap (λ w. w.stream) whole);
+        used_value = used_is ∙ sym (ap (λ w. w.used) whole);
+        written_value = t.counted ∙ sym (ap length text_is);
+        waiting_value = sym (ap (λ w. w.waiting) whole);
+        out_after = t.wrote ∙ ap (λ l. written l out₀) (sym text_is);
+      }
 
   -- The line that is next.
   module _ {line : List ℕ} (line_is : line ≡ first_part newline (drop at input)) where
@@ -131,40 +136,32 @@ module _ {st₀ : Stream} {input out₀ : List ℕ} {st : Stream} {at done : ℕ
     ended_line ended = omega (arith, ended, length-drop at input, ap length line_is, first_length newline (drop at input))
 
     -- It is answered, with what it came to.
-    pub turn : {s : Interface} {n : ℕ} {out₁ : List ℕ}
+    pub turn : {s : Interface} {n : ℕ} {part : List ℕ}
         → (length line ≡ length input - at → ⊥)
-        → longest_answer ≤ length out - done
-        → s ≡ (ended_answer st line).state
-        → n ≡ length (ended_answer st line).text
-        → out₁ ≡ written_at done (ended_answer st line).text out
-        → Turns st₀ input out₀ (at_line_start s) (at + (length line + 1)) (done + n) out₁
-    turn {out₁ = out₁} ended room s_is n_is out_is =
-        let text : List ℕ = (ended_answer st line).text in
+        → longest_answer ≤ length out - count
+        → Gives (ended_answer st line) s n (take (length out - count) (drop count out)) part
+        → Turns st₀ input out₀ (at_line_start s) (at + (length line + 1)) (count + n) (put_mid count (length out - count) out part)
+    turn ended room gives =
+        let answer : List ℕ = (ended_answer st line).text in
         let rest : List ℕ → ℕ → Work = work (at_line_start (ended_answer st line).state) in
-        let inside : done ≤ length out = omega (arith, t.room, t.sized) in
         let ends : length line < length (drop at input) = ended_line ended in
-        let fits : done + length text ≤ length out = omega (arith, room, inside, ended_at_most st line) in
-        let sized : length out₁ ≡ length out = ap length out_is ∙ length_written done text out inside fits in
-        let text_is : take (done + length text) out₁ ≡ take done out ++ text =
-        ap (take (done + length text)) out_is ∙ take_written done text out inside in
-        let room_is : length out₀ - (done + length text) ≡ length out₀ - done - length text = omega arith in
-        rw (s_is, n_is)
+        let fits : length t.text + length answer ≤ length out₀ =
+        omega (arith, room, sized, t.room, t.counted, ended_at_most st line) in
+        let room_is : length out₀ - (count + length answer) ≡ length out₀ - count - length answer = omega arith in
+        rw (gives.state_after, gives.counted)
         (record {
           within = omega (arith, ends, length-drop at input);
-          room = omega (arith, fits, t.sized);
-          sized = sized ∙ t.sized;
-          untouched =
-              ap (drop (done + length text)) out_is
-              ∙ drop_written done text out inside
-              ∙ ap (drop (length text)) t.untouched
-              ∙ drop-drop (length text) done out₀;
+          room = omega (arith, fits, t.counted);
+          text = t.text ++ answer;
+          counted = omega (arith, t.counted, length-append t.text answer);
+          wrote = rw (gives.bytes, t.wrote, t.counted) (part_written t.text answer out₀ fits);
           so_far =
               t.so_far
-              ∙ ap (afterwards at (take done out))
-              (line_next st line (drop at input) (length out₀ - done) line_is ends
-              ∙ rw (le-ltb (length out₀ - done) longest_answer (omega arith)))
-              ∙ afterwards_twice at (suc (length line)) (take done out) text (rest (drop (suc (length line)) (drop at input)) (length out₀ - done - length text))
-              ∙ rw (text_is, drop-drop (suc (length line)) at input, add-one (length line), room_is);
+              ∙ ap (afterwards at t.text)
+              (line_next st line (drop at input) (length out₀ - count) line_is ends
+              ∙ rw (le-ltb (length out₀ - count) longest_answer (omega (arith, room, sized))))
+              ∙ afterwards_twice at (suc (length line)) t.text answer (rest (drop (suc (length line)) (drop at input)) (length out₀ - count - length answer))
+              ∙ rw (drop-drop (suc (length line)) at input, add-one (length line), room_is);
         })
 
     -- A state that is sound stays so.
@@ -176,22 +173,24 @@ module _ {st₀ : Stream} {input out₀ : List ℕ} {st : Stream} {at done : ℕ
         by false = line_stays_sound st.state line (sym told ∙ is)
 
     -- The out buffer is too short for its answer.
-    pub stops : (length line ≡ length input - at → ⊥) → length out - done < longest_answer
-        → Left (work st₀ input (length out₀)) st at done false out₀ out
+    pub stops : (length line ≡ length input - at → ⊥) → length out - count < longest_answer
+        → Left (work st₀ input (length out₀)) st at count false out₀ out
     stops ended short =
         left {more = 0}
-        (line_next st line (drop at input) (length out₀ - done) line_is (ended_line ended)
-        ∙ rw (lt-ltb (length out₀ - done) longest_answer (omega (arith, t.sized))))
+        (line_next st line (drop at input) (length out₀ - count) line_is (ended_line ended)
+        ∙ rw (lt-ltb (length out₀ - count) longest_answer (omega (arith, short, sized))))
         (omega arith)
 
     -- Byte 10 does not end it yet.
-    pub waits : {used : ℕ}
+    pub waits : {skipping : Bool} {used : ℕ}
         → length line ≡ length input - at
-        → used ≡ cond (is_too_long st (length line)) (length input) at
-        → Left (work st₀ input (length out₀)) (record { state = st.state; skipping = is_too_long st (length line) }) used done true out₀ out
-    waits all used_is =
+        → skipping ≡ is_too_long st (length line)
+        → used ≡ cond skipping (length input) at
+        → Left (work st₀ input (length out₀)) (record { state = st.state; skipping = skipping }) used count true out₀ out
+    waits all skipping_is used_is =
         let whole : length (drop at input) ≡ length line = length-drop at input ∙ sym all in
-        left
-        (work_wait st (drop at input) (length out₀ - done) (sym (ap length line_is) ∙ sym whole)
+        rw skipping_is
+        (left
+        (work_wait st (drop at input) (length out₀ - count) (sym (ap length line_is) ∙ sym whole)
         ∙ wait_by_test st (drop at input) (length line) whole)
-        (used_is ∙ used_by_test (is_too_long st (length line)) at (length line) (length input) (omega (arith, t.within)))
+        (used_is ∙ ap (λ t. cond t (length input) at) skipping_is ∙ used_by_test (is_too_long st (length line)) at (length line) (length input) (omega (arith, t.within))))

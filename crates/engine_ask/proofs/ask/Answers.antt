@@ -1,12 +1,10 @@
--- `engine_ask::ask`: a refusal, or the lowest free slot taken.
-use Rattle.engine_ask.proofs.AskLaws.{ask_time, ask_policy, ask_ends}
+-- `engine_ask::ask`: no row refuses it, and the lowest free slot is taken.
+use Rattle.engine_ask.proofs.AskLaws.{no_row, ask_takes}
 use Rattle.engine_ask.proofs.ask.Goals as goal
 
-pub new_claim-claim-requires : goal.new_claim-claim-requires
-new_claim-claim-requires c = (search ask_time, search ask_policy)
-
-pub returns-in-Refused : goal.returns-in-Refused
-returns-in-Refused c = search ask_ends
-
-pub returns-in-Passed : goal.returns-in-Passed
-returns-in-Passed c = search ask_ends
+pub returns : goal.returns
+returns c =
+    let none_refuses = no_row _ _ _ _ _ c.in_ok-admit.ensures
+    _ c.is_allowed.ensures _ c.is_policy.ensures c.if-not-is_allowed.false _ c.is_held.ensures c.if-not-is_policy.false
+    _ c.free_slot.ensures c.if-is_held.false _ c.in-Some.is _ c.is_too_soon.ensures c.if-is_too_soon.false in
+    (none_refuses, search ask_takes)

@@ -1,14 +1,18 @@
--- `engine_deadlines::smallest_deadline`: the loop has found the smallest deadline from slot `i` on.
-use borrow.Author.Rules.{rules}
-use Rattle.engine_slots.proofs.Scans.{begins, down, done}
-use Rattle.engine_deadlines.proofs.Scans.{smallest_scan}
+-- `engine_deadlines::smallest_deadline`: one record more at each step.
+use Rattle.std.proofs.Common.{◌≡◌, Option, List, refl, rules}
+use Rattle.std.proofs.lemmas.Fn.{fold_over, slice_gives, fronts}
+use Rattle.basis.specs.Answers.{time_of}
+use Rattle.basis.specs.declared.Record.{Record}
+use Rattle.basis.specs.declared.Time.{Time}
+use Rattle.basis_engine.specs.Deadlines.{smallest_deadline}
+use Rattle.engine_deadlines.proofs.Scans.{smallest_push}
 use Rattle.engine_deadlines.proofs.smallest_deadline.Goals as goal
 
-pub loop-i-init : goal.loop-i-init
-loop-i-init c = search (begins smallest_scan, rules)
-
-pub loop-i-preserved : goal.loop-i-preserved
-loop-i-preserved c = search (down smallest_scan, rules)
-
 pub returns : goal.returns
-returns c = search (done smallest_scan, rules)
+unfolding smallest_deadline
+returns c =
+    rw (← c.iter.ensures.rest) (
+    fold_over fronts (λ y. y.now) _ (λ (seen : List Record) (best : Option Time). time_of best ≡ smallest_deadline seen) _
+    (λ seen best x more f' j k. let told = smallest_push seen x.now in search rules)
+    _ _ _ _ (slice_gives c.iter.result) refl c.fold.ensures.ran
+    )

@@ -1,18 +1,9 @@
--- `engine_due::stage_after`: each stage has the one after it.
-use Rattle.engine_due.proofs.DueLaws.{after_ends}
+-- `engine_due::stage_after`: a probe, or the first announcement.
+use Rattle.engine_due.proofs.DueLaws.{after_probe, after_first}
 use Rattle.engine_due.proofs.stage_after.Goals as goal
 
-pub returns-in-Free : goal.returns-in-Free
-returns-in-Free c = search after_ends
+pub returns-in-Probing : goal.returns-in-Probing
+returns-in-Probing c = search after_probe
 
-pub returns-then-sent-lt-PROBE_NUM : goal.returns-then-sent-lt-PROBE_NUM
-returns-then-sent-lt-PROBE_NUM c = search after_ends
-
-pub returns-else-sent-lt-PROBE_NUM : goal.returns-else-sent-lt-PROBE_NUM
-returns-else-sent-lt-PROBE_NUM c = search after_ends
-
-pub returns-in-Announced : goal.returns-in-Announced
-returns-in-Announced c = search after_ends
-
-pub returns-in-Settled : goal.returns-in-Settled
-returns-in-Settled c = search after_ends
+pub returns-in-Probing-2 : goal.returns-in-Probing-2
+returns-in-Probing-2 c = search after_first

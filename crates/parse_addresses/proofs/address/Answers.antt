@@ -1,37 +1,35 @@
--- `parse_addresses::address`: `count` octets stand before `start`, and make the value.
-use borrow.Author.Rules.{rules}
-use Rattle.parse_addresses.proofs.Dotted.{begins, to_end, next_start, value_fits, part_last, part_malformed, part_number, last_malformed, last_number}
+-- `parse_addresses::address`: an octet more, or the last.
+use mathlib.Core.Path.{◌∙◌}
+use native.Mathlib.Omega.{arith}
+use Rattle.parse_addresses.proofs.Dotted.{part_last, part_number, part_bound, last_number, last_bound, value_bound, new_fits, new_small}
 use Rattle.parse_addresses.proofs.address.Goals as goal
 
-pub loop-count-init : goal.loop-count-init
-loop-count-init c = search (begins, rules)
-
-pub returns-in_default : goal.returns-in_default
-returns-in_default c = search (to_end, part_malformed, rules)
-
-pub returns-then-end-rest : goal.returns-then-end-rest
-returns-then-end-rest c = search (to_end, part_last, rules)
+pub returns-in_err-rest : goal.returns-in_err-rest
+returns-in_err-rest c =
+    c.from_residual-in_err-rest.ensures
+    ∙ part_last _ _ _ _ c.loop-count.invariant.left _ c.first_number.ensures.number _ c.in_ok-octet.was c.in_ok-octet.ensures.ends
+    c.in_err-rest.ensures c.loop-count-test.true
 
 pub with_octet-value-requires : goal.with_octet-value-requires
-with_octet-value-requires c = search (value_fits, rules)
-
-pub overflow_add-start : goal.overflow_add-start
-overflow_add-start c = search (next_start, rules)
-
-pub overflow_add-start-in-loop-count : goal.overflow_add-start-in-loop-count
-overflow_add-start-in-loop-count c = search (next_start, rules)
+with_octet-value-requires c = (search (value_bound, arith), part_bound _ _ c.first_number.ensures.number _ c.in_ok-octet.was)
 
 pub loop-count-preserved : goal.loop-count-preserved
-loop-count-preserved c = (search (next_start, rules), search rules, search (value_fits, rules), search (to_end, part_number, rules))
-
-pub returns-in_default-number : goal.returns-in_default-number
-returns-in_default-number c = search (to_end, last_malformed, rules)
-
-pub with_octet-requires : goal.with_octet-requires
-with_octet-requires c = search (value_fits, rules)
-
-pub overflow_cast-result : goal.overflow_cast-result
-overflow_cast-result c = search (value_fits, rules)
+loop-count-preserved c =
+    record {
+      small =
+          new_small _ _ c.loop-count.invariant.small _ (part_bound _ _ c.first_number.ensures.number _ c.in_ok-octet.was) _
+          c.with_octet-value.ensures;
+      left =
+          part_number _ _ _ _ c.loop-count.invariant.left _ c.first_number.ensures.number _ c.in_ok-octet.was c.in_ok-octet.ensures.ends
+          c.in_ok-rest.ensures.0 _ c.with_octet-value.ensures _ c.in_ok-rest.ensures.1;
+    }
 
 pub returns : goal.returns
-returns c = search (to_end, last_number, rules)
+returns c = last_number _ _ _ _ c.loop-count.invariant.left (omega arith) _ c.number.ensures _ c.in_ok-last.was _ c.with_octet.ensures
+
+pub with_octet-requires : goal.with_octet-requires
+with_octet-requires c = (search (value_bound, arith), last_bound _ _ c.number.ensures _ c.in_ok-last.was)
+
+pub overflow_cast-result : goal.overflow_cast-result
+overflow_cast-result c =
+    new_fits _ _ c.loop-count.invariant.small _ (last_bound _ _ c.number.ensures _ c.in_ok-last.was) _ c.with_octet.ensures (omega arith)

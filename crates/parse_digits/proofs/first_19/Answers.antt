@@ -1,19 +1,15 @@
--- `parse_digits::first_19`: the bytes before `i` are digits that stand for the value.
-use borrow.Author.Rules.{rules}
-use Rattle.parse_digits.proofs.Scan.{begins_none, room, goes_on_19, stops_19, read_19}
+-- `parse_digits::first_19`: behind less than 19 digits there is room for another.
+use Rattle.std.proofs.Common.{rules, arith}
+use Rattle.parse_digits.proofs.Scan.{room, goes_on_19}
 use Rattle.parse_digits.proofs.first_19.Goals as goal
 
-pub loop-i-init : goal.loop-i-init
-loop-i-init c = search (begins_none, rules)
+pub overflow_mul-value : goal.overflow_mul-value
+overflow_mul-value c =
+    record { fits = omega (arith, room _ _ _ _ c.min-most.ensures c.loop-count.invariant c.loop-count-test.true) }
 
-pub returns-then-not-is_digit : goal.returns-then-not-is_digit
-returns-then-not-is_digit c = search (stops_19, rules)
+pub overflow_add-value : goal.overflow_add-value
+overflow_add-value c =
+    record { fits = omega (arith, room _ _ _ _ c.min-most.ensures c.loop-count.invariant c.loop-count-test.true) }
 
-pub with_digit-value-requires : goal.with_digit-value-requires
-with_digit-value-requires c = search (room, rules)
-
-pub loop-i-preserved : goal.loop-i-preserved
-loop-i-preserved c = search (goes_on_19, rules)
-
-pub returns : goal.returns
-returns c = search (read_19, rules)
+pub loop-count-preserved : goal.loop-count-preserved
+loop-count-preserved c = goes_on_19 _ _ _ _ c.min-most.ensures c.loop-count.invariant c.loop-count-test.true (search rules)

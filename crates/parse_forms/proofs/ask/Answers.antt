@@ -1,12 +1,11 @@
--- `parse_forms::ask`: the address, and what is left of the line.
-use Rattle.parse_forms.proofs.FormsLaws.{no_address, address_asked, address_alone}
+-- `parse_forms::ask`: no tab behind the policy.
+use mathlib.Core.Path.{ap, ◌∙◌}
+use Rattle.parse_forms.specs.Commands.{asked}
+use Rattle.parse_forms.proofs.FormsLaws.{policy_alone}
 use Rattle.parse_forms.proofs.ask.Goals as goal
 
-pub returns-in-Malformed : goal.returns-in-Malformed
-returns-in-Malformed c = search no_address
-
-pub returns-in-Address : goal.returns-in-Address
-returns-in-Address c = search address_asked
-
-pub returns-else-end-rest : goal.returns-else-end-rest
-returns-else-end-rest c = search address_alone
+pub returns-in_err-last : goal.returns-in_err-last
+returns-in_err-last c =
+    ap asked c.from_residual-in_err-last.ensures
+    ∙ policy_alone _ _ _ c.part-second.ensures _ c.address.ensures _ c.in_ok-address.was c.in_ok-rest.ensures.0 _ c.in_ok-rest.ensures.1 _
+    c.first_number.ensures.number _ c.in_ok-policy.was c.in_ok-policy.ensures.ends c.in_err-last.ensures

@@ -1,12 +1,7 @@
--- `parse_hex::sixteen`: the loop has read so many bytes.
-use Prim.Native.Nat.{◌-◌, ◌≤◌}
-use mathlib.Core.Path.{◌≡◌}
-use lib.ListN.{length, take, drop}
+-- `parse_hex::sixteen`: the loop has read the first `i` bytes.
+use Rattle.std.proofs.Common.{◌≡◌, length, take, drop}
 use Rattle.parse_hex.specs.HexValues.{pairs}
 use Rattle.parse_hex.proofs.sixteen.Given as goal
 
-abbrev pub invariant-loop-read : goal.invariant-loop-read
-invariant-loop-read l = (l.read ≤ 16) × (length l.bytes ≡ 16) × (take l.read l.bytes ≡ take l.read (drop l.start (pairs l.text)))
-
-abbrev pub decreases-loop-read : goal.decreases-loop-read
-decreases-loop-read l = 16 - l.read
+abbrev pub invariant-loop-i : goal.invariant-loop-i
+invariant-loop-i l = (length l.byte-items ≡ 16) × (take l.i l.byte-items ≡ take l.i (drop l.start (pairs l.text)))

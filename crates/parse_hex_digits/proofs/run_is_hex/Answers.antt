@@ -1,15 +1,14 @@
--- `parse_hex_digits::run_is_hex`: the loop has seen so many digits.
-use Rattle.std.proofs.Common.{rules}
-use Rattle.parse_hex_digits.specs.HexText.{are_hex}
-use Rattle.parse_hex_digits.proofs.HexDigitsLaws.{run_again, run_done}
+-- `parse_hex_digits::run_is_hex`: what the fold makes of the digits.
+use Rattle.std.proofs.Common.{◌&&◌, ℕ, Bool, true, rules, tests, ◌∙◌}
+use Rattle.std.proofs.lemmas.Iterator.{YieldsList-from_slice}
+use Rattle.std.proofs.lemmas.Iterator.Consumers.{fold_from_yields_List}
+use Rattle.parse_hex_digits.specs.HexText.{is_hex}
+use Rattle.parse_hex_digits.proofs.HexDigitsLaws.{fold_hex}
 use Rattle.parse_hex_digits.proofs.run_is_hex.Goals as goal
 
-pub loop-seen-init : goal.loop-seen-init
-unfolding are_hex
-loop-seen-init c = search rules
-
-pub loop-seen-preserved : goal.loop-seen-preserved
-loop-seen-preserved c = search (run_again, rules)
-
 pub returns : goal.returns
-returns c = search (run_done, rules)
+returns c =
+    fold_from_yields_List _ (λ (all : Bool) (b : ℕ). all && is_hex b) true _ c.fold.ensures.ran
+    (YieldsList-from_slice c.args.run.now (cc))
+    (λ all b next f called. search (rules, tests))
+    ∙ fold_hex true c.args.run.now

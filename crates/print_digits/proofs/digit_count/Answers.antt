@@ -1,24 +1,14 @@
--- `print_digits::digit_count`: the digits counted and those of the rest are all.
-use native.Mathlib.Omega.{arith}
-use borrow.Author.Rules.{rules}
-use Rattle.basis_lines.proofs.NumberLaws.{decimal_at_most}
-use Rattle.print_digits.proofs.Digits.{one_digit, two_digits, two_more}
+-- `print_digits::digit_count`: by the power of ten.
+use Rattle.std.proofs.Common.{arith, rules}
+use Rattle.std.proofs.lemmas.Fmt.{decimal_digit}
+use Rattle.print_digits.proofs.Digits.{power_digits}
 use Rattle.print_digits.proofs.digit_count.Goals as goal
 
-pub overflow_add-count : goal.overflow_add-count
-overflow_add-count c = omega (arith, decimal_at_most c.args.n)
+pub returns-in-0-to-9 : goal.returns-in-0-to-9
+returns-in-0-to-9 c = search (rules, decimal_digit)
 
-pub loop-rest-preserved : goal.loop-rest-preserved
-loop-rest-preserved c = (omega (arith, two_more c.loop-rest.rest (omega arith) (omega arith)), search rules)
+pub returns-in-10-to-99 : goal.returns-in-10-to-99
+returns-in-10-to-99 c = power_digits 1 _ (omega arith) (omega arith) (search rules)
 
-pub overflow_add-result : goal.overflow_add-result
-overflow_add-result c = omega (arith, decimal_at_most c.args.n)
-
-pub overflow_add-result-else-rest-ge10 : goal.overflow_add-result-else-rest-ge10
-overflow_add-result-else-rest-ge10 c = omega (arith, decimal_at_most c.args.n)
-
-pub returns-then-rest-ge10 : goal.returns-then-rest-ge10
-returns-then-rest-ge10 c = omega (arith, two_digits c.loop-rest.rest (omega arith) (omega arith))
-
-pub returns-else-rest-ge10 : goal.returns-else-rest-ge10
-returns-else-rest-ge10 c = omega (arith, one_digit c.loop-rest.rest (omega arith))
+pub returns-in_default : goal.returns-in_default
+returns-in_default c = search (rules, power_digits)

@@ -1,23 +1,18 @@
--- `print_digits::put_hex`: what is left of the bytes makes the whole.
-use mathlib.Core.Path.{refl}
-use native.Mathlib.Nat.{add-zero}
-use native.Mathlib.Omega.{arith}
-use lib.ListN.{length-set}
-use borrow.Author.Rules.{rules}
+-- `print_digits::put_hex`: a byte more with each turn, and all of them.
+use Rattle.std.proofs.Common.{arith, sym, ◌∙◌}
 use Rattle.basis_lines.proofs.HexLaws.{hex_length}
-use Rattle.print_digits.proofs.Puts.{hex_again, hex_done}
+use Rattle.print_digits.proofs.Digits.{byte_written, bytes_written}
 use Rattle.print_digits.proofs.put_hex.Goals as goal
 
-pub loop-i-init : goal.loop-i-init
-loop-i-init c = (search rules, refl, rw (add-zero c.args.at))
-
-pub bounds-out-place-in-loop-i : goal.bounds-out-place-in-loop-i
-bounds-out-place-in-loop-i c = rw length-set (omega arith)
-
 pub loop-i-preserved : goal.loop-i-preserved
-loop-i-preserved c = (search rules, rw (length-set, length-set) (search rules), search hex_again)
+loop-i-preserved c =
+    let byte =
+    byte_written c.args.bytes.now c.args.out.now c.loop-i.i _ _ c.hex_glyph.ensures c.hex_glyph-in-loop-i.ensures
+    in
+    rw c.loop-i.invariant (byte c.loop-i-test.true c.requires)
 
-pub returns : goal.returns
-returns c =
-    let doubled = hex_length c.args.bytes.now in
-    record { bytes = search hex_done; place = omega arith; within = omega arith }
+pub returns-clause-value : goal.returns-clause-value
+returns-clause-value c = sym (hex_length c.args.bytes.now)
+
+pub returns-clause-out_after : goal.returns-clause-out_after
+returns-clause-out_after c = c.loop-i.invariant ∙ bytes_written c.args.bytes.now c.args.out.now c.loop-i.i (omega arith)

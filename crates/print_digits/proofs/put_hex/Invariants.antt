@@ -1,14 +1,8 @@
--- `print_digits::put_hex`: what is left of the bytes makes the whole.
-use Prim.Native.Nat.{◌+◌, ◌-◌, ◌*◌, ◌≤◌}
-use mathlib.Core.Path.{◌≡◌}
-use lib.ListN.{length, drop}
-use lib.Seq.{sets}
+-- `print_digits::put_hex`: as many bytes of the text as have been put.
+use Rattle.std.proofs.Common.{◌*◌, ◌≡◌}
+use Rattle.std.proofs.Math.Seq.{paste}
 use Rattle.basis_lines.specs.Numbers.{hex_text}
 use Rattle.print_digits.proofs.put_hex.Given as goal
 
 abbrev pub invariant-loop-i : goal.invariant-loop-i
-invariant-loop-i l = (l.i ≤ length l.bytes) × (length l.out ≡ length l.initial.out)
-    × (sets l.out (l.at + 2 * l.i) (hex_text (drop l.i l.bytes)) ≡ sets l.initial.out l.at (hex_text l.bytes))
-
-abbrev pub decreases-loop-i : goal.decreases-loop-i
-decreases-loop-i l = length l.bytes - l.i
+invariant-loop-i l = l.out ≡ paste l.initial.out 0 (hex_text l.bytes) (2 * l.i)

@@ -1,2 +1,0 @@
--- What the functions do.
-pub mod StateLaws

@@ -1,2 +1,0 @@
--- What the functions of src/ search for.
-pub mod Places

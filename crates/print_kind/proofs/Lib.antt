@@ -1,2 +1,0 @@
--- What the function does, and a law that the crate print_answer needs too.
-pub mod KindLaws

@@ -1,2 +1,0 @@
--- What the call's proof cites.
-mod LineLaws
