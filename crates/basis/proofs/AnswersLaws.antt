@@ -11,7 +11,7 @@ use Rattle.basis.specs.Bytes.{same_bytes}
 use Rattle.basis.specs.Answers.{kind_word, time_of, Accepted, accepted_of, Answer, answer_report, report_of, refusal_number, refused, accepted, reported, leaves}
 use Rattle.basis.specs.Frame.{read_report, write_report}
 use Rattle.basis.specs.Clock.{ClockReport, clock_report}
-use Rattle.basis.proofs.BytesLaws.{and_both}
+use Rattle.std.proofs.lemmas.Bool.{and_parts}
 use Rattle.basis.specs.declared.Refusal.{Refusal}
 use Rattle.basis.specs.declared.Refusal.TheVariants.{StateNotSound, HardwareNotAllowed, TimeAboveRange, TimeBelowLatest, BufferTooShort, PacketTooShort, FrameUnknown, AddressNotAllowed, PolicyUnknown, AddressHeld, NoSlotFree, AskedTooSoon, SlotNotHeld, LineMalformed}
 use Rattle.basis.specs.declared.Kind.{Kind}
@@ -103,7 +103,7 @@ worded_holds : (test : Kind → Bool) → test Fresh ≡ true → (some_kinds : 
 unfolding worded all_of
 worded_holds test first [] each word = first
 worded_holds test first (kind ∷ rest) each word =
-    let w = and_both (test kind) (all_of test rest) each in
+    let w = and_parts (test kind) (all_of test rest) each in
     go (same_bytes word (kind_word kind)) w.0 (worded_holds test first rest w.1 word)
   where
     go : (b : Bool) → test kind ≡ true → test (worded rest word) ≡ true → test (cond b kind (worded rest word)) ≡ true

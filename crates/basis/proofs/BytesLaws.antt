@@ -2,7 +2,7 @@
 use Prim.Native.Nat.{ℕ, zero, suc, ◌+◌, ◌*◌, ◌/◌, ◌%◌, ◌^◌, ◌≤◌, ◌<◌}
 use mathlib.Core.Path.{◌≡◌, refl, sym, ap, ap₂, ◌∙◌}
 use mathlib.Core.List.{List, [], ◌∷◌, ◌++◌}
-use mathlib.Core.Bool.{Bool, true, false, ◌&&◌}
+use mathlib.Core.Bool.{true}
 use native.Mathlib.Nat.{pow-succ', one-le-pow, mul_assoc, mod-one, mul-add-div_right, mul-add-mod_self_right, mod-eq_of_lt}
 use native.Mathlib.Omega.{arith}
 use lib.ListN.{length, take, drop, get_or, length-drop}
@@ -11,12 +11,8 @@ use lib.Arith.{digits_div, digits_lt, mod-mul}
 use lib.Pow.{are_bytes}
 use lib.Dec.{ltb, eqb}
 use borrow.Author.Tests.{ltb-true, eqb-true}
+use Rattle.std.proofs.lemmas.Bool.{and_parts}
 use Rattle.basis.specs.Bytes.{bytes_of, number_of, number_at, same_bytes}
-
--- Both parts of a test that holds.
-pub and_both : (a b : Bool) → (a && b) ≡ true → (a ≡ true) × (b ≡ true)
-and_both true b h = (refl, h)
-and_both false b h = (h, cc)
 
 pos256 : (n : ℕ) → 0 < 256 ^ n
 pos256 n = one-le-pow n 256 (omega arith)
@@ -49,7 +45,7 @@ above (suc n) q r =
 
 -- A list of bytes: its first is below 256, and the rest are bytes.
 bytes_both : (b : ℕ) (bs : List ℕ) → are_bytes (b ∷ bs) ≡ true → (b < 256) × (are_bytes bs ≡ true)
-bytes_both b bs h = let both = and_both (ltb b 256) (are_bytes bs) h in (ltb-true b 256 both.0, both.1)
+bytes_both b bs h = let both = and_parts (ltb b 256) (are_bytes bs) h in (ltb-true b 256 both.0, both.1)
 
 number_of_lt : (bytes : List ℕ) → are_bytes bytes ≡ true → number_of bytes < 256 ^ length bytes
 number_of_lt [] h = omega arith
@@ -72,7 +68,7 @@ same_equal [] [] h = refl
 same_equal [] (y ∷ ys) h = cc
 same_equal (x ∷ xs) [] h = cc
 same_equal (x ∷ xs) (y ∷ ys) h =
-    let both = and_both (eqb x y) (same_bytes xs ys) h in ap₂ ◌∷◌ (eqb-true x y both.0) (same_equal xs ys both.1)
+    let both = and_parts (eqb x y) (same_bytes xs ys) h in ap₂ ◌∷◌ (eqb-true x y both.0) (same_equal xs ys both.1)
 
 -- The n elements from index i on, one by one.
 abbrev pub elements : ℕ → ℕ → List ℕ → List ℕ
@@ -88,7 +84,7 @@ are_bytes_take : (n : ℕ) (l : List ℕ) → are_bytes l ≡ true → are_bytes
 are_bytes_take zero l h = refl
 are_bytes_take (suc n) [] h = refl
 are_bytes_take (suc n) (b ∷ bs) h =
-    let both = and_both (ltb b 256) (are_bytes bs) h in rw both.0 (are_bytes_take n bs both.1)
+    let both = and_parts (ltb b 256) (are_bytes bs) h in rw both.0 (are_bytes_take n bs both.1)
 
 are_bytes_drop : (n : ℕ) (l : List ℕ) → are_bytes l ≡ true → are_bytes (drop n l) ≡ true
 are_bytes_drop zero l h = h

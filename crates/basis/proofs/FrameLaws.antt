@@ -14,7 +14,8 @@ use Rattle.basis.specs.Addresses.{is_hardware}
 use Rattle.basis.specs.Bytes.{bytes_of, number_of, number_at, same_bytes}
 use Rattle.basis.specs.Answers.{accepted, ◌if◌else◌}
 use Rattle.basis.specs.Frame.{frame_length, frame_bytes, request_header, probe, announcement, is_known_operation, frame_of, is_known_frame, read_refusal, read_of, is_writable, write_refusal, frame_put, write_of, write_out}
-use Rattle.basis.proofs.BytesLaws.{and_both, number_bytes_fits, part_append, number_at_lt, number_at_bytes, same_equal}
+use Rattle.std.proofs.lemmas.Bool.{and_parts}
+use Rattle.basis.proofs.BytesLaws.{number_bytes_fits, part_append, number_at_lt, number_at_bytes, same_equal}
 use Rattle.basis.specs.declared.Ipv4Address.{Ipv4Address}
 use Rattle.basis.specs.declared.HardwareAddress.{HardwareAddress}
 use Rattle.basis.specs.declared.Host.{Host}
@@ -82,8 +83,8 @@ record Writable (f : Frame) : Type 0 where
 writable : (f : Frame) → is_writable f ≡ true → Writable f
 unfolding is_writable
 writable f h =
-    let both = and_both (is_known_operation f.operation && is_hardware f.sender.hardware) (is_hardware f.target.hardware) h in
-    let first = and_both (is_known_operation f.operation) (is_hardware f.sender.hardware) both.0 in
+    let both = and_parts (is_known_operation f.operation && is_hardware f.sender.hardware) (is_hardware f.target.hardware) h in
+    let first = and_parts (is_known_operation f.operation) (is_hardware f.sender.hardware) both.0 in
     record {
       operation_known = first.0;
       sender_hardware = ltb-true f.sender.hardware.0 (2 ^ 48) first.1;
@@ -214,7 +215,7 @@ pieces bytes =
 module _ (bytes : List ℕ) (small : are_bytes bytes ≡ true) (long : frame_length ≤ length bytes) (known : is_known_frame bytes ≡ true) where
   known_parts : (same_bytes (take 6 bytes) (take 6 request_header) ≡ true) × (is_known_operation (number_at 6 2 bytes) ≡ true)
   unfolding is_known_frame
-  known_parts = and_both (same_bytes (take 6 bytes) (take 6 request_header)) (is_known_operation (number_at 6 2 bytes)) known
+  known_parts = and_parts (same_bytes (take 6 bytes) (take 6 request_header)) (is_known_operation (number_at 6 2 bytes)) known
 
   fields_writable : is_writable (frame_of bytes) ≡ true
   unfolding is_writable frame_of

@@ -1,5 +1,5 @@
-// The types of document 01, shared by every call. This crate has no function: specs/ says what is right, proofs/ what
-// follows from it, and the crates above do it.
+// The types of document 01, shared by every call. No function is written here: specs/ says what is right, proofs/ what follows
+// from it, and the crates above do it.
 #![tactic(auto)]
 
 // An IPv4 address, its first byte the most significant.
@@ -11,7 +11,7 @@ pub struct Ipv4Address(pub u32);
 #[derive(Clone, Copy, PartialEq, Eq, PartialOrd, Ord)]
 pub struct Time(pub u64);
 
-pub const LAST_TIME: u64 = 281_474_976_710_655;
+pub const LAST_TIME: Time = Time(281_474_976_710_655);
 
 // Those of section 1.1 of RFC 5227 that the program uses, in ms where they are times. The promises hold them to the definitions.
 pub const PROBE_WAIT: u64 = 1_000;
@@ -37,11 +37,11 @@ pub const LONGEST_DELAY: u64 = 2_000;
 
 // A hardware address: 48 bits, its first byte the most significant. A larger number stands for no address and is refused
 // (reading hardware-48-bits).
-#[derive(Clone, Copy, PartialEq, Eq)]
+#[derive(Clone, Copy, PartialEq, Eq, PartialOrd, Ord)]
 pub struct HardwareAddress(pub u64);
 
 // The first number above them: 2^48.
-pub const HARDWARE_END: u64 = 281_474_976_710_656;
+pub const HARDWARE_END: HardwareAddress = HardwareAddress(281_474_976_710_656);
 
 // The bytes of an ARP frame.
 pub const FRAME_LENGTH: usize = 28;
@@ -53,7 +53,7 @@ pub struct Host {
     pub ip: Ipv4Address,
 }
 
-// What an ARP packet says.
+// What an ARP packet says. The operation is a number and no enum: a frame with any is handed to a write, which refuses it by 7.
 #[derive(Clone, Copy)]
 pub struct Frame {
     pub operation: u16,
@@ -81,7 +81,8 @@ pub enum Stage {
     },
 }
 
-// A slot's record. In a free one address and policy say nothing (readings free-is-a-stage, any-record).
+// A slot's record. In a free one address and policy say nothing (readings free-is-a-stage, any-record). The policy is a number and no
+// enum: any record may be handed in, and one with another policy is not sound. So it is in an ask, which is refused by 9.
 #[derive(Clone, Copy)]
 pub struct Record {
     pub address: Ipv4Address,
@@ -188,7 +189,8 @@ pub struct Called {
     pub state: Interface,
 }
 
-// The answer of the clock: the step, and the new time or a refusal.
+// The answer of the clock: the step, and the new time or a refusal. The step is reported with a refusal too: 0 of a latest time above
+// the range.
 #[derive(Clone, Copy)]
 pub struct ClockAnswer {
     pub step: i32,

@@ -17,19 +17,21 @@ use Rattle.basis.specs.declared.Time.{Time}
 use Rattle.basis.specs.declared.Record.{Record}
 use Rattle.basis.specs.declared.Interface.{Interface}
 use Rattle.basis.specs.declared.HardwareAddress.{HardwareAddress}
-use Rattle.basis.proofs.BytesLaws.{and_both}
+use Rattle.std.proofs.lemmas.Bool.{and_parts}
 use Rattle.basis.proofs.FrameLaws.{handed_out_reads}
 use Rattle.basis_engine.specs.Slots.{free_record, record_at, lowest, is_none, all}
 use Rattle.basis_engine.specs.Interface.{is_own_hardware, first_byte, is_allowed, is_policy, is_free, is_held, is_past, is_sound_stage, is_sound_record, holds_none_twice, is_sound}
 use Rattle.basis_engine.specs.Refusals.{state_and_time, is_too_soon, ask_refusal, tick_refusal, packet_refusal, drop_refusal}
-use Rattle.basis_engine.proofs.SlotLaws.{none≢some, neither, all_holds}
+use Rattle.std.proofs.lemmas.Bool.{or_parts}
+use Rattle.std.proofs.lemmas.Option.{none-some}
+use Rattle.basis_engine.proofs.SlotLaws.{all_holds}
 use Rattle.basis_engine.specs.Interface.{sender_of, is_sound_setup}
 use Rattle.basis_engine.specs.Refusals.{state_time_and_room}
 use Rattle.basis_engine.specs.Timing.{Timing, timing_of}
 
 -- Where no refusal is given, a row does not apply, and no later one gives one.
 pub passed : (n : ℕ) (test : Bool) (others : Option ℕ) → n if test else others ≡ None → (test ≡ false) × (others ≡ None)
-passed n true others e = absurd (none≢some (sym e))
+passed n true others e = absurd (none-some _ (sym e))
 passed n false others e = (refl, e)
 
 -- The rows 1, 3 and 4.
@@ -77,11 +79,11 @@ sound s e =
     let c = leb s.conflicts (timing_of s.setup).max_conflicts in
     let d = is_past s.latest s.asked in
     let f = all (is_sound_record (timing_of s.setup) s.latest) s.records in
-    let six = and_both (a && b && c && d && f) (holds_none_twice s.records) e in
-    let five = and_both (a && b && c && d) f six.0 in
-    let four = and_both (a && b && c) d five.0 in
-    let three = and_both (a && b) c four.0 in
-    let two = and_both a b three.0 in
+    let six = and_parts (a && b && c && d && f) (holds_none_twice s.records) e in
+    let five = and_parts (a && b && c && d) f six.0 in
+    let four = and_parts (a && b && c) d five.0 in
+    let three = and_parts (a && b) c four.0 in
+    let two = and_parts a b three.0 in
     record {
       chosen = two.0;
       in_range = leb-true s.latest.0 last_time two.1;
@@ -93,7 +95,7 @@ sound s e =
 pub sound_once : (s : Interface) → is_sound s ≡ true → holds_none_twice s.records ≡ true
 unfolding is_sound
 sound_once s e =
-    (and_both (is_sound_setup s.setup && leb s.latest.0 last_time && leb s.conflicts (timing_of s.setup).max_conflicts
+    (and_parts (is_sound_setup s.setup && leb s.latest.0 last_time && leb s.conflicts (timing_of s.setup).max_conflicts
     && is_past s.latest s.asked && all (is_sound_record (timing_of s.setup) s.latest) s.records) (holds_none_twice s.records) e).1
 
 -- What is past stays past.
@@ -111,8 +113,8 @@ pub sound_record : (row : Timing) (latest : Time) (r : Record) → is_sound_reco
 unfolding is_sound_record
 sound_record row latest r e held =
     let rest : (is_sound_stage row latest r.stage && is_allowed r.address && is_policy r.policy) ≡ true = rw held at e in
-    let two = and_both (is_sound_stage row latest r.stage && is_allowed r.address) (is_policy r.policy) rest in
-    let one = and_both (is_sound_stage row latest r.stage) (is_allowed r.address) two.0 in
+    let two = and_parts (is_sound_stage row latest r.stage && is_allowed r.address) (is_policy r.policy) rest in
+    let one = and_parts (is_sound_stage row latest r.stage) (is_allowed r.address) two.0 in
     record { sound_stage = one.0; allowed = one.1; known = two.1 }
 
 pub free_sound : (row : Timing) (latest : Time) → is_sound_record row latest free_record ≡ true
@@ -129,8 +131,8 @@ sound_at s slot e held =
 pub allowed_number : (address : Ipv4Address) → is_allowed address ≡ true → (0 < address.0) × (address.0 < 2 ^ 32)
 unfolding is_allowed
 allowed_number address e =
-    let two = and_both (leb 1 (first_byte address) && leb (first_byte address) 223) (not (eqb (first_byte address) 127)) e in
-    let one = and_both (leb 1 (first_byte address)) (leb (first_byte address) 223) two.0 in
+    let two = and_parts (leb 1 (first_byte address) && leb (first_byte address) 223) (not (eqb (first_byte address) 127)) e in
+    let one = and_parts (leb 1 (first_byte address)) (leb (first_byte address) 223) two.0 in
     let low = leb-true 1 (first_byte address) one.0 in
     let high = leb-true (first_byte address) 223 one.1 in
     (omega arith, omega arith)
@@ -139,8 +141,8 @@ allowed_number address e =
 pub own_hardware : (own : HardwareAddress) → is_own_hardware own ≡ true → is_hardware own ≡ true
 unfolding is_own_hardware
 own_hardware own e =
-    let two = and_both (is_hardware own && not (eqb own.0 0)) (eqb (own.0 / 2 ^ 40 % 2) 0) e in
-    (and_both (is_hardware own) (not (eqb own.0 0)) two.0).0
+    let two = and_parts (is_hardware own && not (eqb own.0 0)) (eqb (own.0 / 2 ^ 40 % 2) 0) e in
+    (and_parts (is_hardware own) (not (eqb own.0 0)) two.0).0
 
 pub sender_hardware : (setup : Setup) → is_sound_setup setup ≡ true → is_hardware (sender_of setup) ≡ true
 sender_hardware setup e = own_hardware setup.hardware e
@@ -204,4 +206,4 @@ unfolding drop_refusal
 drop_accepted s time slot e =
     let w = admitted s time (13 if ltb 3 slot || is_free (record_at s.records slot) else None) e in
     let r = passed 13 (ltb 3 slot || is_free (record_at s.records slot)) None w.1 in
-    (w.0, (neither (ltb 3 slot) (is_free (record_at s.records slot)) r.0).1)
+    (w.0, (or_parts (ltb 3 slot) (is_free (record_at s.records slot)) r.0).1)

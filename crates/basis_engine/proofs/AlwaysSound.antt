@@ -2,7 +2,7 @@
 -- refused with 1.
 use Prim.Native.Nat.{ℕ, zero, suc, ◌+◌, ◌≤◌, ◌<◌}
 use mathlib.Core.Path.{◌≡◌, refl, sym, ◌∙◌, subst}
-use mathlib.Core.Bool.{Bool, true, false, not, cond, ◌||◌, true≢false, false≢true}
+use mathlib.Core.Bool.{Bool, true, false, not, or-true, true≢false, false≢true}
 use mathlib.Core.List.{List, [], ◌∷◌}
 use Rattle.std.specs.Prelude.{Option, None, Some}
 use native.Mathlib.Omega.{arith}
@@ -24,7 +24,7 @@ use Rattle.basis.specs.declared.Interface.{Interface}
 use Rattle.basis.specs.declared.Resolution.{Resolution}
 use Rattle.basis.specs.declared.Resolution.TheVariants.{Lose, Defend, Keep}
 use Rattle.basis.specs.declared.Call.{Call}
-use Rattle.basis.proofs.BytesLaws.{and_both}
+use Rattle.std.proofs.lemmas.Bool.{and_parts, cond_both}
 use Rattle.basis_engine.specs.Timing.{wait, gap, after, Timing, timing_of}
 use Rattle.basis_engine.specs.Slots.{with_stage, free_record, record_at, put_at, all, lowest}
 use Rattle.basis_engine.specs.Interface.{is_allowed, is_policy, is_free, is_free_stage, is_held, holds, is_past, longest_delay, is_near, is_sound_stage, is_sound_record, holds_none_twice, is_sound, is_sound_setup, new_interface, changed}
@@ -60,9 +60,9 @@ all_set : (test : Record → Bool) (records : List Record) (slot : ℕ) (new : R
     all test (set records slot new) ≡ true
 unfolding all
 all_set test [] slot new t e = refl
-all_set test (r ∷ records) zero new t e = rw (t, (and_both (test r) (all test records) e).1)
+all_set test (r ∷ records) zero new t e = rw (t, (and_parts (test r) (all test records) e).1)
 all_set test (r ∷ records) (suc slot) new t e =
-    let w = and_both (test r) (all test records) e in rw (w.0, all_set test records slot new t w.1)
+    let w = and_parts (test r) (all test records) e in rw (w.0, all_set test records slot new t w.1)
 
 near_later : (latest t deadline : Time) → latest.0 ≤ t.0 → is_near latest deadline ≡ true → is_near t deadline ≡ true
 near_later latest t deadline h near =
@@ -75,21 +75,17 @@ free_record_lem row t r free = rw free
 taken_record : (row : Timing) → (t : Time) (r : Record) → is_sound_stage row t r.stage ≡ true → is_allowed r.address ≡ true → is_policy r.policy ≡ true →
     is_sound_record row t r ≡ true
 unfolding is_sound_record
-taken_record row t r stage allowed known = rw (stage, allowed, known) (go (is_free r))
-  where
-    go : (b : Bool) → (b || true) ≡ true
-    go true = refl
-    go false = refl
+taken_record row t r stage allowed known = rw (stage, allowed, known) (or-true (is_free r))
 
 module _ (row : Timing) (latest t : Time) (h : latest.0 ≤ t.0) where
   stage_later : (stage : Stage) → is_sound_stage row latest stage ≡ true → is_sound_stage row t stage ≡ true
   unfolding is_sound_stage
   stage_later Free e = refl
   stage_later (Probing sent deadline) e =
-      let w = and_both (leb sent row.probe_num) (is_near latest deadline) e in
+      let w = and_parts (leb sent row.probe_num) (is_near latest deadline) e in
       rw (w.0, near_later latest t deadline h w.1)
   stage_later (Announced deadline conflict) e =
-      let w = and_both (is_near latest deadline) (is_past latest conflict) e in
+      let w = and_parts (is_near latest deadline) (is_past latest conflict) e in
       rw (near_later latest t deadline h w.0, past_later latest t conflict h w.1)
   stage_later (Settled conflict) e = past_later latest t conflict h e
 
@@ -106,7 +102,7 @@ module _ (row : Timing) (latest t : Time) (h : latest.0 ≤ t.0) where
   unfolding all
   all_later [] e = refl
   all_later (r ∷ records) e =
-      let w = and_both (is_sound_record row latest r) (all (is_sound_record row latest) records) e in
+      let w = and_parts (is_sound_record row latest r) (all (is_sound_record row latest) records) e in
       rw (record_later r w.0, all_later records w.1)
 
 -- What each call leaves in its slot is sound.
@@ -114,11 +110,10 @@ due_near : (t : Time) (ms : ℕ) → ms ≤ longest_delay → is_near t (after t
 due_near t ms h = le-leb (t.0 + ms) (t.0 + longest_delay) (omega arith)
 
 delay_near : (row : Timing) → Fits row → (t : Time) (sent draw : ℕ) → is_near t (after t (delay row sent draw)) ≡ true
-delay_near row fits t sent draw = due_near t (delay row sent draw) (go (ltb sent row.probe_num))
-  where
-    go : (b : Bool) → cond b (gap row draw) row.announce_wait ≤ longest_delay
-    go true = fits.gap_near draw
-    go false = fits.announce_near
+delay_near row fits t sent draw =
+    due_near t (delay row sent draw)
+    (cond_both (ltb sent row.probe_num) (gap row draw) row.announce_wait (λ ms. ms ≤ longest_delay)
+    (λ e. fits.gap_near draw) (λ e. fits.announce_near))
 
 sent_sound : (row : Timing) → Fits row → (t : Time) (draw : ℕ) (stage : Stage) → is_sound_stage row t stage ≡ true →
     is_sound_stage row t (stage_after row t draw stage) ≡ true
@@ -130,7 +125,7 @@ sent_sound row fits t draw (Probing sent deadline) e = go (ltb sent row.probe_nu
     go true more =
         rw (more, le-leb (suc sent) row.probe_num (ltb-true sent row.probe_num more)) (delay_near row fits t (suc sent) draw)
     go false more = rw (more, due_near t row.announce_interval fits.interval_near)
-sent_sound row fits t draw (Announced deadline conflict) e = (and_both (is_near t deadline) (is_past t conflict) e).1
+sent_sound row fits t draw (Announced deadline conflict) e = (and_parts (is_near t deadline) (is_past t conflict) e).1
 sent_sound row fits t draw (Settled conflict) e = e
 
 seen_sound : (row : Timing) → (t : Time) (stage : Stage) → is_sound_stage row t stage ≡ true → is_sound_stage row t (seen_at t stage) ≡ true
@@ -138,7 +133,7 @@ unfolding is_sound_stage
 seen_sound row t Free e = refl
 seen_sound row t (Probing sent deadline) e = e
 seen_sound row t (Announced deadline conflict) e =
-    rw ((and_both (is_near t deadline) (is_past t conflict) e).0, le-leb t.0 t.0 (omega arith))
+    rw ((and_parts (is_near t deadline) (is_past t conflict) e).0, le-leb t.0 t.0 (omega arith))
 seen_sound row t (Settled conflict) e = le-leb t.0 t.0 (omega arith)
 
 -- A held record whose stage alone changes, soundly, stays sound; a free one is sound whatever it holds.
@@ -160,11 +155,9 @@ sent_free row t draw (Announced deadline conflict) e = absurd (false≢true e)
 sent_free row t draw (Settled conflict) e = absurd (false≢true e)
 
 counted_up : (row : Timing) → (count : ℕ) → count ≤ row.max_conflicts → count_up row count ≤ row.max_conflicts
-counted_up row count few = go (eqb count row.max_conflicts) refl
-  where
-    go : (b : Bool) → eqb count row.max_conflicts ≡ b → cond b count (suc count) ≤ row.max_conflicts
-    go true e = few
-    go false e = let less = eqb-false count row.max_conflicts e in omega arith
+counted_up row count few =
+    cond_both (eqb count row.max_conflicts) count (suc count) (λ n. n ≤ row.max_conflicts) (λ e. few)
+    (λ e. let less = eqb-false count row.max_conflicts e in omega arith)
 
 module _ (s : Interface) (t : Time) (admission : Admitted s t) where
   records_later : all (is_sound_record (timing_of s.setup) t) s.records ≡ true

@@ -1,8 +1,9 @@
 -- A packet and a drop mark every open claim that they concern: what that does to the claims on one address.
 use mathlib.Core.Path.{◌≡◌, refl}
-use mathlib.Core.Bool.{Bool, true, false, cond, ◌&&◌}
+use mathlib.Core.Bool.{Bool, true, false, ◌&&◌, and-false}
 use mathlib.Core.List.{List, ◌∷◌, map}
 use mathlib.Core.Logic.{inl, inr}
+use Rattle.std.proofs.lemmas.Bool.{cond_both}
 use Rattle.basis.specs.declared.Ipv4Address.{Ipv4Address}
 use Rattle.basis.specs.declared.Record.{Record}
 use Rattle.basis_engine.specs.Slots.{record_at}
@@ -19,11 +20,7 @@ module _ (row : Timing) (test : Claim → Bool) (mark : Mark) where
   changed c = marked_if row (test c) mark c
 
   changed_on : (address : Ipv4Address) (c : Claim) → is_on address (changed c) ≡ is_on address c
-  changed_on address c = go (is_open row c && test c)
-    where
-      go : (b : Bool) → is_on address (cond b (marked mark c) c) ≡ is_on address c
-      go true = refl
-      go false = refl
+  changed_on address c = cond_both (is_open row c && test c) (marked mark c) c (λ d. is_on address d ≡ is_on address c) (λ e. refl) (λ e. refl)
 
   pub on_changed : (address : Ipv4Address) (claims : List Claim) → on address (map changed claims) ≡ map changed (on address claims)
   on_changed address claims = on_map address changed (changed_on address) claims
@@ -33,11 +30,7 @@ module _ (row : Timing) (test : Claim → Bool) (mark : Mark) where
   closed_same c closed = rw closed.ended
 
   spared_same : (c : Claim) → test c ≡ false → changed c ≡ c
-  spared_same c spared = rw spared (go (is_open row c))
-    where
-      go : (b : Bool) → cond (b && false) (marked mark c) c ≡ c
-      go true = refl
-      go false = refl
+  spared_same c spared = rw (spared, and-false) refl
 
   -- The claims on an address that is not concerned.
   pub unconcerned_each : (address : Ipv4Address) (records : List Record) (claims : List Claim) → Link row address records claims →

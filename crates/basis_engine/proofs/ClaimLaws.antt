@@ -4,6 +4,7 @@ use mathlib.Core.Bool.{Bool, true, false, cond, false≢true}
 use mathlib.Core.List.{List, [], ◌∷◌, map}
 use Rattle.std.specs.Prelude.{Option, None, Some}
 use borrow.Author.Tests.{eq-eqb, eqb-true}
+use Rattle.std.proofs.lemmas.Bool.{false_from_ne_true}
 use Rattle.basis.specs.declared.Ipv4Address.{Ipv4Address}
 use Rattle.basis_engine.specs.Claims.{Mark, Claim, marked, is_on, marked_latest, latest_on}
 use Rattle.basis_engine.specs.Demand3.{Each}
@@ -63,14 +64,15 @@ module _ (address : Ipv4Address) where
   on_marked_other other apart mark [] = refl
   on_marked_other other apart mark (c ∷ earlier) = go (is_on other c) refl (on_marked_other other apart mark earlier)
     where
-      not_here : is_on other c ≡ true → (b : Bool) → is_on address c ≡ b → b ≡ false
-      not_here o true e = absurd (apart (sym (eqb-true c.address.0 other.0 o) ∙ eqb-true c.address.0 address.0 e))
-      not_here o false e = refl
+      not_here : is_on other c ≡ true → is_on address c ≡ false
+      not_here o =
+          false_from_ne_true (is_on address c)
+          (λ e. apart (sym (eqb-true c.address.0 other.0 o) ∙ eqb-true c.address.0 address.0 e))
 
       go : (b : Bool) → is_on other c ≡ b → on address (marked_latest other mark earlier) ≡ on address earlier →
           on address (cond b (marked mark c ∷ earlier) (c ∷ marked_latest other mark earlier))
           ≡ cond (is_on address c) (c ∷ on address earlier) (on address earlier)
-      go true o later = rw (not_here o (is_on address c) refl)
+      go true o later = rw (not_here o)
       go false o later = rw later
 
 -- What holds of the claims on every address holds of all claims.

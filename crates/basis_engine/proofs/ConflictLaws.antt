@@ -13,7 +13,7 @@ use Rattle.basis.specs.declared.Stage.{Stage}
 use Rattle.basis.specs.declared.Stage.TheVariants.{Free, Probing, Announced, Settled}
 use Rattle.basis.specs.declared.Record.{Record}
 use Rattle.basis.specs.declared.Interface.{Interface}
-use Rattle.basis.proofs.BytesLaws.{and_both}
+use Rattle.std.proofs.lemmas.Bool.{and_parts}
 use Rattle.basis_engine.specs.Slots.{record_at}
 use Rattle.basis_engine.specs.Interface.{is_ours, is_free, is_free_stage, holds, is_sound}
 use Rattle.basis_engine.specs.Conflicts.{is_from, probes_for, is_conflict_at, is_conflict, seen_at}
@@ -76,8 +76,8 @@ module _ (setup : Setup) (f : Frame) where
   probe_concerned : (address : Ipv4Address) → probes_for f address ≡ true → address.0 ≡ concerned
   unfolding concerned
   probe_concerned address e =
-      let two = and_both (eqb f.operation 1 && eqb f.sender.ip.0 0) (eqb f.target.ip.0 address.0) e in
-      let one = and_both (eqb f.operation 1) (eqb f.sender.ip.0 0) two.0 in
+      let two = and_parts (eqb f.operation 1 && eqb f.sender.ip.0 0) (eqb f.target.ip.0 address.0) e in
+      let one = and_parts (eqb f.operation 1) (eqb f.sender.ip.0 0) two.0 in
       rw one.1 (sym (eqb-true f.target.ip.0 address.0 two.1))
 
   conflict_concerned : (address : Ipv4Address) (stage : Stage) → 0 < address.0 → is_conflict_at setup f address stage ≡ true → address.0 ≡ concerned
@@ -86,11 +86,11 @@ module _ (setup : Setup) (f : Frame) where
     where
       go : (b : Bool) → is_from f address ≡ b → (b || (probes_for f address && not (is_ours setup f.sender.hardware))) ≡ true → address.0 ≡ concerned
       go true from e = from_concerned address h from
-      go false from e = probe_concerned address (and_both (probes_for f address) (not (is_ours setup f.sender.hardware)) e).0
+      go false from e = probe_concerned address (and_parts (probes_for f address) (not (is_ours setup f.sender.hardware)) e).0
   conflict_concerned address (Announced deadline conflict) h e =
-      from_concerned address h (and_both (is_from f address) (not (is_ours setup f.sender.hardware)) e).0
+      from_concerned address h (and_parts (is_from f address) (not (is_ours setup f.sender.hardware)) e).0
   conflict_concerned address (Settled conflict) h e =
-      from_concerned address h (and_both (is_from f address) (not (is_ours setup f.sender.hardware)) e).0
+      from_concerned address h (and_parts (is_from f address) (not (is_ours setup f.sender.hardware)) e).0
 
   -- A free record is in no conflict.
   pub conflict_held : (r : Record) → is_conflict setup f r ≡ true → is_free r ≡ false

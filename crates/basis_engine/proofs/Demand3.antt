@@ -1,7 +1,7 @@
 -- Demand 3 holds of every history.
 use Prim.Native.Nat.{ℕ}
 use mathlib.Core.Path.{◌≡◌, refl, sym, ap, ◌∙◌}
-use mathlib.Core.Bool.{Bool, true, false, cond, ◌&&◌, true≢false, false≢true}
+use mathlib.Core.Bool.{Bool, true, false, cond, ◌&&◌, and-true, true≢false, false≢true}
 use mathlib.Core.List.{List, [], ◌∷◌, ◌++◌, map}
 use Rattle.std.specs.Prelude.{Option, None, Some}
 use mathlib.Core.Logic.{inl, inr, ◌↔◌}
@@ -16,7 +16,7 @@ use Rattle.basis.specs.declared.Stage.TheVariants.{Free, Probing, Announced, Set
 use Rattle.basis.specs.declared.Record.{Record}
 use Rattle.basis.specs.declared.Interface.{Interface}
 use Rattle.basis.specs.declared.Call.{Call}
-use Rattle.basis.proofs.BytesLaws.{and_both}
+use Rattle.std.proofs.lemmas.Bool.{and_parts}
 use Rattle.basis_engine.specs.Timing.{Timing, timing_of}
 use Rattle.basis_engine.specs.Slots.{record_at, any}
 use Rattle.basis_engine.specs.Interface.{holds, is_usable_stage, new_interface}
@@ -68,10 +68,6 @@ call_linked setup s claims asks linked (Call.Tick time draw) bytes lent old e = 
 call_linked setup s claims asks linked (Call.Packet time) bytes lent old e = packet_linked setup s claims asks linked time bytes lent e
 call_linked setup s claims asks linked (Call.Drop time slot) bytes lent old e = drop_linked setup s claims asks linked time slot bytes lent e
 
-pub not_fresh : (b : Bool) → (b && true) ≡ false → b ≡ false
-not_fresh true e = e
-not_fresh false e = refl
-
 module _ (setup : Setup) (before : Interface) (claims : List Claim) (asks : List ℕ) (linked : Linked setup before claims asks)
     (call : Call) (bytes lent : List ℕ) where
   -- An exchange with this refusal, or none.
@@ -85,7 +81,7 @@ module _ (setup : Setup) (before : Interface) (claims : List Claim) (asks : List
   exchange_by (Some n) e report state out answered kept written old = rw (answered, kept) linked
   exchange_by None e report state out answered kept written old =
       rw (answered, kept, written)
-      (call_linked setup before claims asks linked call bytes lent (not_fresh (is_fresh call) (rw answered at old)) e)
+      (call_linked setup before claims asks linked call bytes lent (sym (and-true (is_fresh call)) ∙ rw answered at old) e)
 
   exchange_linked : (answer : Answer) (state : Interface) (out : List ℕ) → Promised before call bytes lent answer state out →
       (is_fresh call && is_accepted (answer_report answer)) ≡ false →
@@ -146,7 +142,7 @@ module _ (row : Timing) (address : Ipv4Address) (records : List Record) where
   claimed_through : (claims : List Claim) → Link row address records claims → any (is_usable_in address) records ≡ true → LatestWentThrough row (first claims)
   claimed_through claims link e =
       let w = any_slot (is_usable_in address) records e in
-      let both = and_both (holds address (record_at records w.0)) (is_usable_stage (record_at records w.0).stage) w.1 in
+      let both = and_parts (holds address (record_at records w.0)) (is_usable_stage (record_at records w.0).stage) w.1 in
       let h = linked_here row address records claims w.0 both.0 link in
       let here = h.0 in
       rw here.claimed

@@ -1,12 +1,13 @@
 -- An accepted drop keeps the link: the claim of its slot is over.
 use Prim.Native.Nat.{ℕ, ◌<◌}
 use mathlib.Core.Path.{◌≡◌, refl, sym, ◌∙◌, subst}
-use mathlib.Core.Bool.{Bool, true, false, not, cond, ◌&&◌, false≢true}
+use mathlib.Core.Bool.{Bool, true, false, not, ◌&&◌, false≢true}
 use mathlib.Core.List.{List, map}
 use Rattle.std.specs.Prelude.{None}
 use mathlib.Core.Logic.{inl}
 use lib.ListN.{length, set}
 use borrow.Author.Tests.{eq-eqb, ne_eqb}
+use Rattle.std.proofs.lemmas.Bool.{cond_both}
 use Rattle.basis.specs.declared.Ipv4Address.{Ipv4Address}
 use Rattle.basis.specs.declared.Setup.{Setup}
 use Rattle.basis.specs.declared.Time.{Time}
@@ -81,11 +82,9 @@ module _ (setup : Setup) (s : Interface) (claims : List Claim) (asks : List ℕ)
 
   drop_conflicts : (c : Claim) → times_of a_conflict (released setup time slot c).marks ≡ times_of a_conflict c.marks
   unfolding times_of
-  drop_conflicts c = go (is_open (timing_of setup) c && is_just slot c.slot)
-    where
-      go : (b : Bool) → times_of a_conflict (cond b (marked (mark a_drop time) c) c).marks ≡ times_of a_conflict c.marks
-      go true = refl
-      go false = refl
+  drop_conflicts c =
+      cond_both (is_open (timing_of setup) c && is_just slot c.slot) (marked (mark a_drop time) c) c
+      (λ d. times_of a_conflict d.marks ≡ times_of a_conflict c.marks) (λ e. refl) (λ e. refl)
 
   drop_done : LinkedAfter setup claims asks (Call.Drop time slot) bytes lent (drop_outcome s time slot)
   unfolding drop_outcome claims_after

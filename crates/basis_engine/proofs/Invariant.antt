@@ -2,7 +2,7 @@
 use Rattle.std.specs.Prelude.{Option, Some, None}
 use Prim.Native.Nat.{ℕ, zero, suc, ◌+◌, ◌≤◌, min}
 use mathlib.Core.Path.{◌≡◌, refl, sym, ap, ◌∙◌, subst}
-use mathlib.Core.Bool.{Bool, true, false, not, cond, ◌&&◌, false≢true, ◌||◌}
+use mathlib.Core.Bool.{Bool, true, false, not, cond, ◌&&◌, false≢true, ◌||◌, and-false}
 use mathlib.Core.List.{List, [], ◌∷◌, map}
 use mathlib.Core.Logic.{inl, inr}
 use native.Mathlib.Nat.{suc_inj, suc-ne-zero}
@@ -19,7 +19,7 @@ use Rattle.basis.specs.declared.Record.{Record}
 use Rattle.basis.specs.declared.Interface.{Interface}
 use Rattle.basis.specs.declared.Call.{Call}
 use Rattle.basis.specs.declared.Setup.{Setup}
-use Rattle.basis.proofs.BytesLaws.{and_both}
+use Rattle.std.proofs.lemmas.Bool.{and_parts}
 use Rattle.basis_engine.specs.Slots.{record_at}
 use Rattle.basis_engine.specs.Interface.{is_free, holds, is_held, holds_none_twice}
 use Rattle.basis_engine.specs.Calls.{Outcome, renewed}
@@ -89,20 +89,12 @@ pub holds_own : (r : Record) → is_free r ≡ false → holds r.address r ≡ t
 holds_own r e = rw (e, eq-eqb r.address.0 r.address.0 refl)
 
 pub holds_no_other : (address : Ipv4Address) (r : Record) → (address.0 ≡ r.address.0 → ⊥) → holds address r ≡ false
-holds_no_other address r apart = rw (ne_eqb r.address.0 address.0 (λ e. apart (sym e))) (go (not (is_free r)))
-  where
-    go : (b : Bool) → (b && false) ≡ false
-    go true = refl
-    go false = refl
+holds_no_other address r apart = rw (ne_eqb r.address.0 address.0 (λ e. apart (sym e))) (and-false (not (is_free r)))
 
 pub held_address : (address : Ipv4Address) (r : Record) → holds address r ≡ true → (is_free r ≡ false) × (r.address.0 ≡ address.0)
 held_address address r e =
-    let w = and_both (not (is_free r)) (eqb r.address.0 address.0) e in
-    (taken (is_free r) w.0, eqb-true r.address.0 address.0 w.1)
-  where
-    taken : (b : Bool) → not b ≡ true → b ≡ false
-    taken true e = absurd (false≢true e)
-    taken false e = refl
+    let w = and_parts (not (is_free r)) (eqb r.address.0 address.0) e in
+    (not-true (is_free r) w.0, eqb-true r.address.0 address.0 w.1)
 
 -- "No address is held twice", slot by slot.
 pub held_once : (records : List Record) →
@@ -126,7 +118,7 @@ head_alone : (r : Record) (records : List Record) (address : Ipv4Address) (slot 
 unfolding holds_none_twice
 head_alone r records address slot e h k =
     let first = held_address address r h in
-    let alone = (and_both (is_free r || not (is_held r.address records)) (holds_none_twice records) e).0 in
+    let alone = (and_parts (is_free r || not (is_held r.address records)) (holds_none_twice records) e).0 in
     let absent : is_held r.address records ≡ false = not-true (is_held r.address records) (rw first.0 at alone) in
     let nowhere = any_fails (holds r.address) records slot refl absent in
     false≢true (sym nowhere ∙ subst (λ (a : Ipv4Address). holds a (record_at records slot) ≡ true) (same_address_lem address r.address (sym first.1)) k)
@@ -140,7 +132,7 @@ held_in_one (r ∷ records) address zero (suc other) e h k = absurd (head_alone 
 held_in_one (r ∷ records) address (suc slot) zero e h k = absurd (head_alone r records address slot e k h)
 held_in_one (r ∷ records) address (suc slot) (suc other) e h k =
     ap suc (held_in_one records address slot other
-    (and_both (is_free r || not (is_held r.address records)) (holds_none_twice records) e).1 h k)
+    (and_parts (is_free r || not (is_held r.address records)) (holds_none_twice records) e).1 h k)
 
 -- An address that is in a slot: its claims, and that the link's slot is this one.
 pub linked_here : (row : Timing) → (address : Ipv4Address) (records : List Record) (claims : List Claim) (slot : ℕ) →

@@ -9,6 +9,7 @@ use lib.Dec.{eqb}
 use lib.ListN.{length, set}
 use lib.Seq.{get_or-set_same, get_or-set_other}
 use borrow.Author.Tests.{eqb-true, eqb-false}
+use Rattle.std.proofs.lemmas.Bool.{false_from_ne_true}
 use Rattle.basis.specs.declared.Ipv4Address.{Ipv4Address}
 use Rattle.basis.specs.declared.Stage.{Stage}
 use Rattle.basis.specs.declared.Stage.TheVariants.{Free, Probing, Announced, Settled}
@@ -145,10 +146,9 @@ module _ (records : List Record) (slot : ℕ) (new : Record) (room : slot < leng
       pub link_over : (c : Claim) → holds address new ≡ false → Closed row c → Away row address (set records slot new) (c ∷ here.older)
       link_over c not_new closed =
           record {
-            nowhere = at_each (λ n r. holds address r ≡ false) not_new (λ other apart. gone other apart (holds address (record_at records other)) refl);
+            nowhere = at_each (λ n r. holds address r ≡ false) not_new gone;
             all_over = (closed, here.older_over);
           }
         where
-          gone : (other : ℕ) → (other ≡ slot → ⊥) → (b : Bool) → holds address (record_at records other) ≡ b → b ≡ false
-          gone other apart true e = absurd (apart (here.only_here other e ∙ mine))
-          gone other apart false e = refl
+          gone : (other : ℕ) → (other ≡ slot → ⊥) → holds address (record_at records other) ≡ false
+          gone other apart = false_from_ne_true (holds address (record_at records other)) (λ e. apart (here.only_here other e ∙ mine))

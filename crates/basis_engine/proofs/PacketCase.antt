@@ -22,7 +22,7 @@ use Rattle.basis.specs.declared.Interface.{Interface}
 use Rattle.basis.specs.declared.Resolution.{Resolution}
 use Rattle.basis.specs.declared.Resolution.TheVariants.{Lose, Defend, Keep}
 use Rattle.basis.specs.declared.Call.TheVariants as Call
-use Rattle.basis.proofs.BytesLaws.{and_both}
+use Rattle.std.proofs.lemmas.Bool.{and_parts, false_from_ne_true}
 use Rattle.basis_engine.specs.Slots.{record_at, free_record, with_stage, lowest}
 use Rattle.basis_engine.specs.Interface.{is_free, holds, is_past, is_near, is_sound_stage, sender_of}
 use Rattle.basis_engine.specs.Conflicts.{is_conflict, count_up, by_policy, resolution_at, resolution, seen_at}
@@ -65,7 +65,7 @@ module _ (row : Timing) (policy : ℕ) (latest t : Time) (later : latest.0 ≤ t
   kept_story Free e sound story = absurd story
   kept_story (Probing sent deadline) e sound story = absurd (true≢false (ap is_lose e))
   kept_story (Announced deadline conflict) e sound story =
-      kept_in_use conflict 1 story e (and_both (is_near latest deadline) (is_past latest conflict) sound).1
+      kept_in_use conflict 1 story e (and_parts (is_near latest deadline) (is_past latest conflict) sound).1
   kept_story (Settled conflict) e sound story = kept_in_use conflict 2 story e sound
 
   defended_in_use : (conflict : Option Time) (sent : ℕ) → InUse row policy conflict sent marks → by_policy row policy t conflict ≡ Defend →
@@ -81,7 +81,7 @@ module _ (row : Timing) (policy : ℕ) (latest t : Time) (later : latest.0 ≤ t
   defended_story Free e sound story = absurd story
   defended_story (Probing sent deadline) e sound story = absurd (true≢false (ap is_lose e))
   defended_story (Announced deadline conflict) e sound story =
-      defended_in_use conflict 1 story e (and_both (is_near latest deadline) (is_past latest conflict) sound).1
+      defended_in_use conflict 1 story e (and_parts (is_near latest deadline) (is_past latest conflict) sound).1
   defended_story (Settled conflict) e sound story = defended_in_use conflict 2 story e sound
 
 -- The conflict count: one more for each claim that is hit.
@@ -191,13 +191,10 @@ module _ (setup : Setup) (s : Interface) (claims : List Claim) (asks : List ℕ)
 
     spared_other : (other : Ipv4Address) → (other.0 ≡ r.address.0 → ⊥) → (here : Here (timing_of setup) other s.records (on other claims)) →
         is_conflict_with setup f here.latest ≡ false
-    spared_other other apart here = go (is_conflict_with setup f here.latest) refl
-      where
-        go : (b : Bool) → is_conflict_with setup f here.latest ≡ b → b ≡ false
-        go true e =
-            absurd (apart (sym (held_address other (record_at s.records here.slot) here.held).1
-            ∙ sym here.agrees.same_address ∙ hit_here other here e))
-        go false e = refl
+    spared_other other apart here =
+        false_from_ne_true (is_conflict_with setup f here.latest)
+        (λ e. apart (sym (held_address other (record_at s.records here.slot) here.held).1
+        ∙ sym here.agrees.same_address ∙ hit_here other here e))
 
     on_other : (other : Ipv4Address) → (other.0 ≡ r.address.0 → ⊥) → on other (map (struck setup t f) claims) ≡ on other claims
     on_other other apart =
@@ -225,7 +222,7 @@ module _ (setup : Setup) (s : Interface) (claims : List Claim) (asks : List ℕ)
         go (inr here) =
             rw here.claimed (
               λ e. eq-eqb here.latest.address.0 r.address.0
-                  (hit_here address here (and_both (is_open (timing_of setup) here.latest) (is_conflict_with setup f here.latest) e).1),
+                  (hit_here address here (and_parts (is_open (timing_of setup) here.latest) (is_conflict_with setup f here.latest) e).1),
               each_map (Closed (timing_of setup)) (λ c. is_hit setup t f c ≡ true → is_on r.address c ≡ true) over here.older here.older_over,
             )
 

@@ -1,6 +1,6 @@
 -- Laws of the four slots, each over any records and any slot number.
 use Prim.Native.Nat.{ℕ, zero, suc, ◌+◌, ◌<◌}
-use mathlib.Core.Path.{◌≡◌, refl, sym, ap, ◌∙◌}
+use mathlib.Core.Path.{◌≡◌, refl, sym, ◌∙◌}
 use mathlib.Core.Bool.{Bool, true, false, cond, ◌||◌, true≢false, false≢true}
 use mathlib.Core.List.{List, [], ◌∷◌}
 use Rattle.std.specs.Prelude.{Option, None, Some}
@@ -8,20 +8,9 @@ use native.Mathlib.Nat.{not-le_of_lt}
 use native.Mathlib.Omega.{arith}
 use lib.ListN.{length}
 use Rattle.basis.specs.declared.Record.{Record}
-use Rattle.basis.proofs.BytesLaws.{and_both}
+use Rattle.std.proofs.lemmas.Bool.{and_parts, or_parts, true_from_ne_false}
+use Rattle.std.proofs.lemmas.Option.{none-some}
 use Rattle.basis_engine.specs.Slots.{free_record, record_at, any, all, lowest_from, lowest}
-
-pub none≢some : {n : ℕ} → None ≡ Some n → ⊥
-none≢some {n} e = false≢true (ap is_some e)
-  where
-    is_some : Option ℕ → Bool
-    is_some None = false
-    is_some (Some n) = true
-
--- Both parts of a test that fails.
-pub neither : (a b : Bool) → (a || b) ≡ false → (a ≡ false) × (b ≡ false)
-neither true b e = absurd (true≢false e)
-neither false b e = (refl, e)
 
 module _ (test : Record → Bool) where
   -- The slot that is found, as a number k from the first record on.
@@ -38,7 +27,7 @@ module _ (test : Record → Bool) where
 
   found : (n : ℕ) (records : List Record) (slot : ℕ) → lowest_from n test records ≡ Some slot → Found n records slot
   unfolding lowest_from
-  found n [] slot e = absurd (none≢some e)
+  found n [] slot e = absurd (none-some _ e)
   found n (r ∷ records) slot e =
       found_here n slot r records (lowest_from (suc n) test records) (found (suc n) records slot) (test r) refl e
 
@@ -55,7 +44,7 @@ module _ (test : Record → Bool) where
   below : (n : ℕ) (records : List Record) (slot k : ℕ) → lowest_from n test records ≡ Some slot → n + k < slot →
       test (record_at records k) ≡ false
   unfolding lowest_from
-  below n [] slot k e h = absurd (none≢some e)
+  below n [] slot k e h = absurd (none-some _ e)
   below n (r ∷ records) slot k e h = go (below (suc n) records slot) (test r) refl e k h
     where
       go : ((k : ℕ) → lowest_from (suc n) test records ≡ Some slot → suc n + k < slot → test (record_at records k) ≡ false) →
@@ -90,24 +79,20 @@ module _ (test : Record → Bool) where
       test (record_at records slot) ≡ false
   unfolding any
   any_fails [] slot f e = f
-  any_fails (r ∷ records) zero f e = (neither (test r) (any test records) e).0
-  any_fails (r ∷ records) (suc slot) f e = any_fails records slot f (neither (test r) (any test records) e).1
+  any_fails (r ∷ records) zero f e = (or_parts (test r) (any test records) e).0
+  any_fails (r ∷ records) (suc slot) f e = any_fails records slot f (or_parts (test r) (any test records) e).1
 
   pub all_holds : (records : List Record) (slot : ℕ) → test free_record ≡ true → all test records ≡ true →
       test (record_at records slot) ≡ true
   unfolding all
   all_holds [] slot f e = f
-  all_holds (r ∷ records) zero f e = (and_both (test r) (all test records) e).0
-  all_holds (r ∷ records) (suc slot) f e = all_holds records slot f (and_both (test r) (all test records) e).1
+  all_holds (r ∷ records) zero f e = (and_parts (test r) (all test records) e).0
+  all_holds (r ∷ records) (suc slot) f e = all_holds records slot f (and_parts (test r) (all test records) e).1
 
   -- A slot of which a test holds makes `any` hold, if it fails of a free record; and `any` names one.
   pub any_holds : (records : List Record) (slot : ℕ) → test free_record ≡ false → test (record_at records slot) ≡ true →
       any test records ≡ true
-  any_holds records slot f t = go (any test records) refl
-    where
-      go : (b : Bool) → any test records ≡ b → b ≡ true
-      go true e = refl
-      go false e = let u = any_fails records slot f e in cc
+  any_holds records slot f t = true_from_ne_false (any test records) (λ e. true≢false (sym t ∙ any_fails records slot f e))
 
   pub any_slot : (records : List Record) → any test records ≡ true → (slot : ℕ) × (test (record_at records slot) ≡ true)
   unfolding any

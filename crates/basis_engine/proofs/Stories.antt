@@ -2,7 +2,7 @@
 use Rattle.std.specs.Prelude.{Option, Some, None}
 use Prim.Native.Nat.{ℕ, suc, ◌+◌, ◌<◌, ◌≤◌}
 use mathlib.Core.Path.{◌≡◌, refl, ap, ◌∙◌}
-use mathlib.Core.Bool.{Bool, true, false, cond, not, ◌&&◌, ◌||◌}
+use mathlib.Core.Bool.{Bool, true, false, cond, not, ◌&&◌, ◌||◌, and-false}
 use mathlib.Core.List.{List, [], ◌∷◌, ◌++◌}
 use native.Mathlib.Omega.{arith}
 use lib.Dec.{ltb, eqb}
@@ -272,11 +272,7 @@ ended_before_use row policy t marks e = rw e
 pub ended_by_surrender : (row : Timing) → (policy : ℕ) (t : Time) (marks : List Mark) → is_surrender row policy marks t ≡ true →
     is_open_after row policy (mark a_conflict t ∷ marks) ≡ false
 unfolding is_open_after
-ended_by_surrender row policy t marks e = rw e (go (is_in_use marks))
-  where
-    go : (b : Bool) → (b && false && is_open_after row policy marks) ≡ false
-    go true = refl
-    go false = refl
+ended_by_surrender row policy t marks e = rw (e, and-false (is_in_use marks)) refl
 
 pub ended_by_drop : (row : Timing) → (policy : ℕ) (t : Time) (marks : List Mark) → is_open_after row policy (mark a_drop t ∷ marks) ≡ false
 unfolding is_open_after

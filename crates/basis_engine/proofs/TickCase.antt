@@ -1,7 +1,7 @@
 -- An accepted tick keeps the link: a frame of the due slot's claim is sent, or nothing is.
 use Prim.Native.Nat.{ℕ, ◌≤◌}
 use mathlib.Core.Path.{◌≡◌, refl, sym, subst}
-use mathlib.Core.Bool.{Bool, true, false, cond}
+use mathlib.Core.Bool.{Bool, true, false}
 use mathlib.Core.List.{List, ◌∷◌}
 use Rattle.std.specs.Prelude.{Option, None, Some}
 use mathlib.Core.Logic.{inr}
@@ -9,6 +9,7 @@ use native.Mathlib.Omega.{arith}
 use lib.Dec.{ltb, eqb}
 use lib.ListN.{length, set}
 use borrow.Author.Tests.{ltb-true, ltb-false, ne_eqb}
+use Rattle.std.proofs.lemmas.Bool.{cond_both}
 use Rattle.basis.specs.Frame.{probe, announcement, frame_of, frame_put}
 use Rattle.basis.specs.declared.Ipv4Address.{Ipv4Address}
 use Rattle.basis.specs.declared.Setup.{Setup}
@@ -28,7 +29,7 @@ use Rattle.basis_engine.specs.Deadlines.{deadline_of, due_slot}
 use Rattle.basis_engine.specs.Calls.{serve, tick_outcome, DueFrame, due_frame, due_frame_at, stage_after}
 use Rattle.basis_engine.specs.Refusals.{tick_refusal}
 use Rattle.basis_engine.specs.Claims.{Mark, Claim, ticked, marked, marked_latest, claims_after, mark, a_probe, an_announcement, a_conflict, times_of}
-use Rattle.basis_engine.proofs.SlotLaws.{none≢some}
+use Rattle.std.proofs.lemmas.Option.{none-some}
 use Rattle.basis_engine.proofs.DeadlineLaws.{Due, due_slot_lem}
 use Rattle.basis_engine.proofs.Acceptance.{Admitted, tick_accepted, sound, sound_at, allowed_number, probe_reads, announcement_reads}
 use Rattle.basis_engine.proofs.ClaimLaws.{on, on_marked, on_marked_other}
@@ -69,7 +70,7 @@ module _ (setup : Setup) (address : Ipv4Address) (policy : ℕ) (t : Time) (draw
   served_stage : (stage : Stage) (deadline : ℕ) → deadline_of stage ≡ Some deadline → deadline ≤ t.0 → Story (timing_of setup) policy stage marks →
       Served (timing_of setup) address policy t marks (due_frame_at (timing_of setup) setup address stage) (stage_after (timing_of setup) t draw stage)
   unfolding probe stage_after
-  served_stage Free deadline has late story = absurd (none≢some has)
+  served_stage Free deadline has late story = absurd (none-some _ has)
   served_stage (Probing sent d) deadline has late story = go (ltb sent (timing_of setup).probe_num) refl
     where
       past : d.0 ≤ t.0
@@ -97,7 +98,7 @@ module _ (setup : Setup) (address : Ipv4Address) (policy : ℕ) (t : Time) (draw
           (first_announced (timing_of setup) policy d.0 t marks (subst (λ (n : ℕ). Probed (timing_of setup) n d.0 marks) all story) past))
   served_stage (Announced d conflict) deadline has late story =
       announced_served (Settled conflict) refl (second_announced (timing_of setup) policy conflict t marks story)
-  served_stage (Settled conflict) deadline has late story = absurd (none≢some has)
+  served_stage (Settled conflict) deadline has late story = absurd (none-some _ has)
 
 module _ (setup : Setup) (s : Interface) (claims : List Claim) (asks : List ℕ) (linked : Linked setup s claims asks)
     (time : Time) (draw : ℕ) (bytes out : List ℕ) (admission : Admitted s time) where
@@ -125,7 +126,7 @@ module _ (setup : Setup) (s : Interface) (claims : List Claim) (asks : List ℕ)
     held = go (record_at s.records slot).stage due.has
       where
         go : (stage : Stage) → deadline_of stage ≡ Some due.deadline → is_free_stage stage ≡ false
-        go Free e = absurd (none≢some e)
+        go Free e = absurd (none-some _ e)
         go (Probing sent d) e = refl
         go (Announced d conflict) e = refl
         go (Settled conflict) e = refl
@@ -168,11 +169,9 @@ module _ (setup : Setup) (s : Interface) (claims : List Claim) (asks : List ℕ)
 
       mark_conflicts : (marks : List Mark) → times_of a_conflict (sent ∷ marks) ≡ times_of a_conflict marks
       unfolding times_of sent
-      mark_conflicts marks = go (eqb serves.frame.sender.ip.0 0)
-        where
-          go : (b : Bool) → times_of a_conflict (mark (cond b a_probe an_announcement) time ∷ marks) ≡ times_of a_conflict marks
-          go true = refl
-          go false = refl
+      mark_conflicts marks =
+          cond_both (eqb serves.frame.sender.ip.0 0) a_probe an_announcement
+          (λ sign. times_of a_conflict (mark sign time ∷ marks) ≡ times_of a_conflict marks) (λ e. refl) (λ e. refl)
 
       tick_done : LinkedAfter setup claims asks (Call.Tick time draw) bytes out (serve s time draw (Some slot))
       unfolding claims_after r due_frame_lem stage new sent

@@ -9,7 +9,7 @@ use native.Mathlib.Omega.{arith}
 use lib.Dec.{leb}
 use borrow.Author.Tests.{leb-true}
 use Rattle.basis_engine.specs.Demand3.{Spaced, count_from, AtMostOneEach}
-use Rattle.basis.proofs.BytesLaws.{and_both}
+use Rattle.std.proofs.lemmas.Bool.{and_parts}
 
 module _ (ms a b : ℕ) where
   -- None from a to b, or n + 1 of them, which take at least n times the distance up to this time and up to b.
@@ -19,7 +19,7 @@ module _ (ms a b : ℕ) where
   one : (time : ℕ) (inside : Bool) → (leb a time && leb time b) ≡ inside → Fits (cond inside 1 0 + 0) time
   unfolding Fits
   one time true e =
-      let w = and_both (leb a time) (leb time b) e in
+      let w = and_parts (leb a time) (leb time b) e in
       let low = leb-true a time w.0 in
       let high = leb-true time b w.1 in
       let None = zero-mul ms in
@@ -30,13 +30,13 @@ module _ (ms a b : ℕ) where
       Fits (cond inside 1 0 + count) time
   unfolding Fits
   more time before count true e apart (inl few) =
-      let w = and_both (leb a time) (leb time b) e in
+      let w = and_parts (leb a time) (leb time b) e in
       let low = leb-true a time w.0 in
       let high = leb-true time b w.1 in
       let nothing = zero-mul ms in
       inr (0, omega arith, omega arith, omega arith)
   more time before count true e apart (inr w) =
-      let high = leb-true time b (and_both (leb a time) (leb time b) e).1 in
+      let high = leb-true time b (and_parts (leb a time) (leb time b) e).1 in
       let next = suc-mul w.0 ms in
       let told = w.1 in
       let fits = w.2 in

@@ -11,7 +11,8 @@ use lib.Pow.{are_bytes}
 use borrow.Author.Tests.{lt-ltb, ltb-true, ne_eqb, eq-eqb, eqb-true}
 use Rattle.basis.specs.Bytes.{bytes_of, number_of}
 use Rattle.basis.specs.declared.Ipv4Address.{Ipv4Address}
-use Rattle.basis.proofs.BytesLaws.{and_both, number_bytes_fits}
+use Rattle.std.proofs.lemmas.Bool.{and_parts}
+use Rattle.basis.proofs.BytesLaws.{number_bytes_fits}
 use Rattle.basis_lines.specs.Fields.{dot, parts}
 use Rattle.basis_lines.specs.Numbers.{is_digit, are_digits, number, each, address, decimal}
 use Rattle.basis_lines.proofs.ReadingLaws.{then_none, then_some, only_some}
@@ -41,7 +42,7 @@ digits_lack : (separator : ℕ) → is_digit separator ≡ false → (text : Lis
 unfolding are_digits
 digits_lack separator other [] e = refl
 digits_lack separator other (b ∷ text) e =
-    let (digit, digits) = and_both (is_digit b) (are_digits text) e in
+    let (digit, digits) = and_parts (is_digit b) (are_digits text) e in
     rw (
       ne_eqb b separator (λ same. true≢false (sym digit ∙ ap (λ (c : ℕ). is_digit c) same ∙ other)),
       digits_lack separator other text digits,
@@ -56,7 +57,7 @@ each_printed : (most : ℕ) → 255 ≤ most → most < 2 ^ 64 → (bs : List �
 unfolding each
 each_printed most all fit [] small = refl
 each_printed most all fit (b ∷ bs) small =
-    let (fits, rest) = and_both (ltb b 256) (are_bytes bs) small in
+    let (fits, rest) = and_parts (ltb b 256) (are_bytes bs) small in
     rw (number_printed most b (omega (arith, ltb-true b 256 fits)) (omega arith), each_printed most all fit bs rest)
 
 abbrev ArePrinted : List (List ℕ) → List ℕ → Type 0

@@ -8,6 +8,7 @@ use native.Mathlib.Omega.{arith}
 use lib.Dec.{eqb}
 use borrow.Author.Tests.{eqb-true}
 use lib.ListN.{length, get_or, take, drop}
+use lib.Seq.{drop-cons}
 use Rattle.basis_lines.specs.Fields.{before, parts, first_part}
 
 -- There is always a first part.
@@ -24,12 +25,8 @@ some_part s (b ∷ text) = cases (eqb b s) refl (some_part s text)
     cases true e h = rw e (omega arith)
     cases false e h = rw e (some_before (parts s text))
 
-first_and_others : (ps : List (List ℕ)) → 1 ≤ length ps → ps ≡ get_or ps 0 [] ∷ drop 1 ps
-first_and_others [] h = absurd (omega arith)
-first_and_others (p ∷ ps) h = refl
-
 pub first_of_parts : (s : ℕ) (text : List ℕ) → parts s text ≡ first_part s text ∷ drop 1 (parts s text)
-first_of_parts s text = first_and_others (parts s text) (some_part s text)
+first_of_parts s text = drop-cons (parts s text) 0 [] (some_part s text)
 
 -- A byte more in front: the separator itself, or a byte of the first part.
 pub first_separator : (s b : ℕ) (text : List ℕ) → eqb b s ≡ true → first_part s (b ∷ text) ≡ []

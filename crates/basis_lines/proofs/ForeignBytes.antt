@@ -12,7 +12,7 @@ use Rattle.basis.specs.Bytes.{same_bytes}
 use Rattle.basis.specs.declared.Interface.{Interface}
 use Rattle.basis.proofs.BytesLaws.{same_equal}
 use Rattle.basis_engine.specs.Machine.{Invocation}
-use Rattle.basis_engine.proofs.SlotLaws.{neither}
+use Rattle.std.proofs.lemmas.Bool.{or_parts}
 use Rattle.basis_lines.specs.Fields.{tab, dot, parts, ◌then◌}
 use Rattle.basis_lines.specs.Numbers.{is_digit, hex_digit, address, largest, largest_draw}
 use Rattle.basis_lines.specs.Forms.{call_in, call_of, fresh_word, ask_word, tick_word, packet_word, drop_word}
@@ -50,10 +50,10 @@ pub data OneStray : List Alphabet → List (List ℕ) → Type 0 where
 -- What such a field is read as.
 no_address : (front : List ℕ) (b : ℕ) (back : List ℕ) → is_in dotted b ≡ false → address (front ++ (b ∷ back)) ≡ None
 no_address front b back e =
-    let (digit, other) = neither (is_digit b) (eqb b dot) e in foreign_in_address front b back digit other
+    let (digit, other) = or_parts (is_digit b) (eqb b dot) e in foreign_in_address front b back digit other
 
 no_hex : (b : ℕ) → is_in hex b ≡ false → hex_digit b ≡ None
-no_hex b e = let (digit, letter) = neither (is_digit b) (leb 97 b && leb b 102) e in rw (digit, letter)
+no_hex b e = let (digit, letter) = or_parts (is_digit b) (leb 97 b && leb b 102) e in rw (digit, letter)
 
 -- A reading whose next one is none.
 unread_next : {A B : Type 0} (o : Option A) → ◌≡◌ {A = Option B} (o then λ a. None) None
@@ -106,9 +106,9 @@ record Foreign (b : ℕ) : Type 0 where
 
 foreign_facts : (b : ℕ) → is_foreign b ≡ true → Foreign b
 foreign_facts b e =
-    let (others, letter) = neither (is_digit b || eqb b tab || eqb b dot) (is_letter b) (not-true _ e) in
-    let (fewer, dots) = neither (is_digit b || eqb b tab) (eqb b dot) others in
-    let (digit, tabs) = neither (is_digit b) (eqb b tab) fewer in
+    let (others, letter) = or_parts (is_digit b || eqb b tab || eqb b dot) (is_letter b) (not-true _ e) in
+    let (fewer, dots) = or_parts (is_digit b || eqb b tab) (eqb b dot) others in
+    let (digit, tabs) = or_parts (is_digit b) (eqb b tab) fewer in
     record { no_digit = digit; no_tab = tabs; no_dot = dots; no_letter = letter }
 
 outside : (b : ℕ) → Foreign b → (alphabet : Alphabet) → is_in alphabet b ≡ false

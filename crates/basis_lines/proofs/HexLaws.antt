@@ -14,10 +14,12 @@ use lib.Seq.{take_all}
 use borrow.Author.Tests.{lt-ltb, le-ltb, le-leb, lt-leb, ltb-true, ltb-false, leb-true, eqb-true}
 use Rattle.basis.specs.Bytes.{bytes_of, number_of}
 use Rattle.basis.specs.declared.HardwareAddress.{HardwareAddress}
-use Rattle.basis.proofs.BytesLaws.{and_both, number_bytes_fits, number_at_lt, number_at_bytes}
+use Rattle.std.proofs.lemmas.Bool.{and_parts}
+use Rattle.std.proofs.lemmas.Option.{none-some, same_Some}
+use Rattle.basis.proofs.BytesLaws.{number_bytes_fits, number_at_lt, number_at_bytes}
 use Rattle.basis_lines.specs.Fields.{only}
 use Rattle.basis_lines.specs.Numbers.{is_digit, hex_digit, hex_bytes, bytes, hardware, hex_glyph, hex_text}
-use Rattle.basis_lines.proofs.ReadingLaws.{some_same, none≢some, then_none, then_some, only_some, cond_some, cond_none}
+use Rattle.basis_lines.proofs.ReadingLaws.{then_none, then_some, only_some, cond_some, cond_none}
 use Rattle.basis_lines.proofs.NumberLaws.{digit_glyph, digit_bounds}
 
 -- A byte that is no hex digit, at any place, makes the text none.
@@ -50,7 +52,7 @@ digit_exact b d e = go (is_digit b) refl e
         (omega arith, rw (lt-ltb d 10 (omega arith)) (omega arith))
     go false digit read =
         let found = only_some (leb 97 b && leb b 102) (b - 87) d read in
-        let both = and_both (leb 97 b) (leb b 102) found.0 in
+        let both = and_parts (leb 97 b) (leb b 102) found.0 in
         let low = leb-true 97 b both.0 in
         let high = leb-true b 102 both.1 in
         (omega (arith, found.1), rw (le-ltb d 10 (omega (arith, found.1))) (omega (arith, found.1)))
@@ -79,7 +81,7 @@ pub hex_printed : (bs : List ℕ) → are_bytes bs ≡ true → hex_bytes (hex_t
 unfolding hex_bytes hex_text
 hex_printed [] small = refl
 hex_printed (b ∷ bs) small =
-    let both = and_both (ltb b 256) (are_bytes bs) small in
+    let both = and_parts (ltb b 256) (are_bytes bs) small in
     rw (
       digit_printed (b / 16) ((div-lt_iff_lt-mul (omega arith)).1 (ltb-true b 256 both.0)),
       digit_printed (b % 16) (mod-lt b (omega arith)),
@@ -101,7 +103,7 @@ byte_exact high h low l bs text read_high read_low rest =
 pub hex_exact : (text bs : List ℕ) → hex_bytes text ≡ Some bs → IsTextOf bs text
 unfolding hex_bytes hex_text
 hex_exact [] bs e = let is : [] ≡ bs = cc in subst (λ (read : List ℕ). IsTextOf read []) is (refl, refl)
-hex_exact (high ∷ []) bs e = absurd (none≢some e)
+hex_exact (high ∷ []) bs e = absurd (none-some _ e)
 hex_exact (high ∷ low ∷ text) bs e =
     let (h, read_high, e') = then_some (hex_digit high) _ bs e in
     let (l, read_low, e'') = then_some (hex_digit low) _ bs e' in
@@ -167,7 +169,7 @@ unfolding hardware
 hardware_exact text own e =
     let (twelve, made) = cond_some (eqb (length text) 12) _ own e in
     let (six, read, is) = then_some (hex_bytes text) _ own made in
-    let same = ap (λ (address : HardwareAddress). address.0) (some_same _ own is) in
+    let same = ap (λ (address : HardwareAddress). address.0) (same_Some _ own is) in
     let (printed, small) = hex_exact text six read in
     let (again, fits) = number_as_bytes 6 six small (omega (arith, read_length text six read, eqb-true (length text) 12 twelve)) in
     (printed ∙ ap hex_text (sym again) ∙ ap (λ (n : ℕ). hex_text (bytes_of 6 n)) same, omega arith)

@@ -10,7 +10,7 @@ use lib.ListN.{length, length-append}
 use lib.Arith.{digits_div, digits_mod}
 use lib.Dec.{ltb, leb, eqb}
 use borrow.Author.Tests.{lt-ltb, le-ltb, le-leb, ltb-true, ltb-false, leb-true, eqb-false, ne_eqb, not-true}
-use Rattle.basis.proofs.BytesLaws.{and_both}
+use Rattle.std.proofs.lemmas.Bool.{and_parts, cond_both}
 use Rattle.basis_lines.specs.Numbers.{is_digit, are_digits, is_empty, is_numeral, value_after, number, largest, largest_draw, last_digits, decimal}
 use Rattle.basis_lines.proofs.ReadingLaws.{only_some}
 
@@ -42,7 +42,7 @@ pub digit_glyph : (d : ℕ) → d < 10 → is_digit (48 + d) ≡ true
 digit_glyph d h = rw (le-leb 48 (48 + d) (omega arith), le-leb (48 + d) 57 (omega arith))
 
 pub digit_bounds : (b : ℕ) → is_digit b ≡ true → (48 ≤ b) × (b ≤ 57)
-digit_bounds b e = let both = and_both (leb 48 b) (leb b 57) e in (leb-true 48 b both.0, leb-true b 57 both.1)
+digit_bounds b e = let both = and_parts (leb 48 b) (leb b 57) e in (leb-true 48 b both.0, leb-true b 57 both.1)
 
 digits_append : (front back : List ℕ) → are_digits (front ++ back) ≡ (are_digits front && are_digits back)
 unfolding are_digits
@@ -68,7 +68,7 @@ value_grows n (b ∷ text) = omega (arith, value_grows (10 * n + (b - 48)) text)
 no_zero_first : (b : ℕ) (text : List ℕ) → is_numeral (b ∷ text) ≡ true → 1 ≤ value_after 0 (b ∷ text) → eqb b 48 ≡ false
 unfolding value_after
 no_zero_first b [] e h = ne_eqb b 48 (λ same. omega arith)
-no_zero_first b (c ∷ text) e h = not-true (eqb b 48) (and_both (are_digits (b ∷ c ∷ text)) (not (eqb b 48)) e).1
+no_zero_first b (c ∷ text) e h = not-true (eqb b 48) (and_parts (are_digits (b ∷ c ∷ text)) (not (eqb b 48)) e).1
 
 longer_numeral : (text : List ℕ) (d : ℕ) → is_numeral text ≡ true → 1 ≤ value_after 0 text → d < 10 →
     is_numeral (text ++ ((48 + d) ∷ [])) ≡ true
@@ -83,7 +83,7 @@ longer_numeral (b ∷ text) d e h small =
       and-true (are_digits text),
       and-true (is_digit b && are_digits text),
     )
-    (and_both (are_digits (b ∷ text)) (is_empty text || not (eqb b 48)) e).0
+    (and_parts (are_digits (b ∷ text)) (is_empty text || not (eqb b 48)) e).0
 
 -- What is printed is a numeral that stands for the number.
 record Stands (n : ℕ) (text : List ℕ) : Type 0 where
@@ -147,17 +147,17 @@ shorter_numeral x front b e =
     record {
       numeral = rw (digits.0, no_zero, or-true (is_empty front));
       positive = omega (arith, value_grows (10 * 0 + (x - 48)) front, first, eqb-false x 48 no_zero);
-      last = digit_bounds b (and_both (is_digit b) true digits.1).0;
+      last = digit_bounds b (and_parts (is_digit b) true digits.1).0;
     }
   where
     both : (are_digits ((x ∷ front) ++ (b ∷ [])) ≡ true) × ((is_empty (front ++ (b ∷ [])) || not (eqb x 48)) ≡ true)
-    both = and_both (are_digits ((x ∷ front) ++ (b ∷ []))) (is_empty (front ++ (b ∷ [])) || not (eqb x 48)) e
+    both = and_parts (are_digits ((x ∷ front) ++ (b ∷ []))) (is_empty (front ++ (b ∷ [])) || not (eqb x 48)) e
 
     digits : (are_digits (x ∷ front) ≡ true) × (are_digits (b ∷ []) ≡ true)
-    digits = and_both (are_digits (x ∷ front)) (are_digits (b ∷ [])) (sym (digits_append (x ∷ front) (b ∷ [])) ∙ both.0)
+    digits = and_parts (are_digits (x ∷ front)) (are_digits (b ∷ [])) (sym (digits_append (x ∷ front) (b ∷ [])) ∙ both.0)
 
     first : (48 ≤ x) × (x ≤ 57)
-    first = digit_bounds x (and_both (is_digit x) (are_digits front) digits.0).0
+    first = digit_bounds x (and_parts (is_digit x) (are_digits front) digits.0).0
 
     no_zero : eqb x 48 ≡ false
     no_zero = not-true (eqb x 48) (rw (not_empty front b) at both.1)
@@ -184,7 +184,7 @@ exact_by_last : (k : ℕ) → Exact k → {text : List ℕ} → Ended text → i
 unfolding are_digits value_after
 exact_by_last k exact empty e h = cc
 exact_by_last k exact (ends [] b) e h =
-    let bounds = digit_bounds b (and_both (is_digit b) true (and_both (is_digit b && true) true e).0).0 in
+    let bounds = digit_bounds b (and_parts (is_digit b) true (and_parts (is_digit b && true) true e).0).0 in
     sym (one_digit k (10 * 0 + (b - 48)) (omega arith) ∙ ap (λ (c : ℕ). c ∷ []) (omega arith))
 exact_by_last k exact (ends (x ∷ front) b) e h =
     let s = shorter_numeral x front b e in
@@ -210,7 +210,7 @@ number_read : (most : ℕ) (text : List ℕ) (n : ℕ) → number most text ≡ 
 unfolding number
 number_read most text n e =
     let read = only_some (is_numeral text && leb (value_after 0 text) most) (value_after 0 text) n e in
-    let both = and_both (is_numeral text) (leb (value_after 0 text) most) read.0 in
+    let both = and_parts (is_numeral text) (leb (value_after 0 text) most) read.0 in
     let small = leb-true (value_after 0 text) most both.1 in
     (record { numeral = both.0; value = read.1 }, omega (arith, read.1))
 
@@ -260,8 +260,6 @@ decimal_at_most n = digits_at_most 20 n
 
 pub decimal_at_least : (n : ℕ) → 1 ≤ length (decimal n)
 unfolding last_digits
-decimal_at_least n = go (ltb n 10)
-  where
-    go : (test : Bool) → 1 ≤ length (cond test ((48 + n) ∷ []) (last_digits 19 (n / 10) ++ ((48 + n % 10) ∷ [])))
-    go true = omega arith
-    go false = rw length-append (omega arith)
+decimal_at_least n =
+    cond_both (ltb n 10) ((48 + n) ∷ []) (last_digits 19 (n / 10) ++ ((48 + n % 10) ∷ [])) (λ text. 1 ≤ length text)
+    (λ e. omega arith) (λ e. rw length-append (omega arith))

@@ -5,7 +5,7 @@ use mathlib.Core.Bool.{Bool, true, false, not, cond, ◌&&◌}
 use mathlib.Core.List.{List, [], ◌∷◌, ◌++◌}
 use lib.Dec.{eqb}
 use borrow.Author.Tests.{eq-eqb, eqb-true, not-true}
-use Rattle.basis.proofs.BytesLaws.{and_both}
+use Rattle.std.proofs.lemmas.Bool.{and_parts}
 use Rattle.basis_lines.specs.Fields.{before, parts}
 use Rattle.basis_lines.proofs.FieldLaws.{first_of_parts}
 
@@ -71,7 +71,7 @@ joined_parts separator (b ∷ text) = go (eqb b separator) refl (joined_parts se
 lacks_first : (separator b : ℕ) (text : List ℕ) → lacks separator (b ∷ text) ≡ true →
     (eqb b separator ≡ false) × (lacks separator text ≡ true)
 lacks_first separator b text e =
-    let both = and_both (not (eqb b separator)) (lacks separator text) e in
+    let both = and_parts (not (eqb b separator)) (lacks separator text) e in
     (not-true (eqb b separator) both.0, both.1)
 
 lone_part : (separator : ℕ) (text : List ℕ) → lacks separator text ≡ true → parts separator text ≡ text ∷ []
@@ -90,8 +90,8 @@ part_and_rest separator (b ∷ text) rest e =
 pub parts_joined : (separator : ℕ) (p : List ℕ) (ps : List (List ℕ)) → all_lack separator (p ∷ ps) ≡ true →
     parts separator (joined separator (p ∷ ps)) ≡ p ∷ ps
 unfolding joined
-parts_joined separator p [] e = lone_part separator p (and_both (lacks separator p) true e).0
+parts_joined separator p [] e = lone_part separator p (and_parts (lacks separator p) true e).0
 parts_joined separator p (q ∷ ps) e =
-    let (lack, all) = and_both (lacks separator p) (all_lack separator (q ∷ ps)) e in
+    let (lack, all) = and_parts (lacks separator p) (all_lack separator (q ∷ ps)) e in
     part_and_rest separator p (joined separator (q ∷ ps)) lack
     ∙ ap (λ (rest : List (List ℕ)). p ∷ rest) (parts_joined separator q ps all)

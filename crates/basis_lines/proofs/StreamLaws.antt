@@ -9,6 +9,7 @@ use lib.Dec.{eqb, ltb}
 use borrow.Author.Tests.{ltb-true, ltb-false, lt-ltb, le-ltb, le-leb}
 use lib.ListN.{length, take, drop, replicate, length-append, length-drop}
 use lib.Seq.{append_snoc, length-take-le, take_at, drop_at, take-add, drop-append_seam, drop-append-add}
+use Rattle.std.proofs.lemmas.Bool.{or_parts}
 use Rattle.basis.specs.declared.Interface.{Interface}
 use Rattle.basis_engine.specs.Interface.{zeros}
 use Rattle.basis_lines.specs.declared.Stream.{Stream}
@@ -146,11 +147,6 @@ begun_more : (st : Stream) (begun : List ℕ) (b : ℕ) → eqb b newline ≡ fa
 unfolding Begun
 begun_more st begun b e h more = rw append_snoc (h (b ∷ more) ∙ to_come_more st begun b more e)
 
--- If neither of two tests holds, the second does not.
-neither : (a b : Bool) → (a || b) ≡ false → b ≡ false
-neither true b h = absurd (true≢false h)
-neither false b h = h
-
 -- No answer is longer than the longest one.
 abbrev pub LongestAnswer : Type 0
 LongestAnswer = (s : Interface) (line : List ℕ) → length (line_answer s line).text ≤ longest_answer
@@ -193,7 +189,7 @@ module _ (st : Stream) (begun : List ℕ) (room : ℕ) (told : Begun st begun) w
       (record {
         goes = λ more. sym (told more);
         ends = λ h. rw append-nil at (told []);
-        small = λ h. ltb-false longest_line (length begun) (neither st.skipping (ltb longest_line (length begun)) e);
+        small = λ h. ltb-false longest_line (length begun) (or_parts st.skipping (ltb longest_line (length begun)) e).1;
         goes_on = λ h k. absurd (true≢false k);
         within = omega arith;
         fits = λ longest. omega arith;

@@ -11,7 +11,7 @@ use basis::{ClockAnswer, LAST_TIME, Refusal, Time};
 pub fn widen(latest: Time, reading: u32) -> ClockAnswer
     ensures { clock_report result ≡ clock_of latest.0 reading }
 {
-    if LAST_TIME < latest.0 {
+    if LAST_TIME < latest {
         return ClockAnswer {
             step: 0,
             time: Err(Refusal::TimeAboveRange),
@@ -20,13 +20,13 @@ pub fn widen(latest: Time, reading: u32) -> ClockAnswer
     let low = (latest.0 % (1 << 32)) as u32;
     let difference = reading.wrapping_sub(low);
     let step = difference.cast_signed();
-    let later = latest.0 + u64::from(difference);
+    let later = Time(latest.0 + u64::from(difference));
     let time = if step < 0 {
         Err(Refusal::TimeBelowLatest)
     } else if LAST_TIME < later {
         Err(Refusal::TimeAboveRange)
     } else {
-        Ok(Time(later))
+        Ok(later)
     };
     ClockAnswer { step, time }
 }

@@ -13,11 +13,7 @@ use engine_admission::Judged;
 fn perform(state: Interface, call: Call, bytes: &[u8], out: &mut [u8]) -> Called
     ensures { Promised state call bytes.now out.old result.answer result.state out.new }
 {
-    let performed = engine_calls::perform(&Judged::new(state), call, bytes, out);
-    Called {
-        answer: performed.answer,
-        state: performed.state,
-    }
+    engine_calls::perform(&Judged::new(state), call, bytes, out).called
 }
 
 // A call to which nothing is lent.

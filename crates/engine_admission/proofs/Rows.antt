@@ -1,8 +1,9 @@
 -- The rows that a call begins with, before its others: they refuse it, or leave it to those.
 use Prim.Native.Nat.{ℕ, ◌≤◌, ◌<◌}
-use mathlib.Core.Path.{◌≡◌, refl, sym, ◌∙◌}
+use mathlib.Core.Path.{◌≡◌, refl, sym, ap, ◌∙◌}
 use mathlib.Core.Bool.{Bool, true, false, not}
 use Rattle.std.specs.Prelude.{Option, None, Some}
+use Rattle.std.specs.Option.{option_or}
 use lib.Dec.{ltb}
 use borrow.Author.Tests.{lt-ltb, le-ltb}
 use Rattle.basis.specs.Times.{last_time}
@@ -13,28 +14,23 @@ use Rattle.basis.specs.declared.Interface.{Interface}
 use Rattle.basis_engine.specs.Interface.{is_sound}
 use Rattle.basis_engine.specs.Refusals.{state_and_time, state_time_and_room}
 
-barred_by : (n : ℕ) (sound above below : Bool) (others : Option ℕ) →
-    (1 if not sound else 3 if above else 4 if below else None) ≡ Some n → (1 if not sound else 3 if above else 4 if below else others) ≡ Some n
-barred_by n false above below others e = e
-barred_by n true true below others e = e
-barred_by n true false true others e = e
-barred_by n true false false others e = cc
-
-left_by : (sound above below : Bool) (others : Option ℕ) →
-    (1 if not sound else 3 if above else 4 if below else None) ≡ None → (1 if not sound else 3 if above else 4 if below else others) ≡ others
-left_by false above below others e = cc
-left_by true true below others e = cc
-left_by true false true others e = cc
-left_by true false false others e = refl
+row_first : (row : Bool) (n : ℕ) (more less others : Option ℕ) → more ≡ option_or less others →
+    (n if row else more) ≡ option_or (n if row else less) others
+row_first true n more less others e = refl
+row_first false n more less others e = e
 
 module _ (s : Interface) (time : Time) (others : Option ℕ) where
-  pub rows_bar : (n : ℕ) → state_and_time s time None ≡ Some n → state_and_time s time others ≡ Some n
+  rows_first : state_and_time s time others ≡ option_or (state_and_time s time None) others
   unfolding state_and_time
-  rows_bar n e = barred_by n (is_sound s) (ltb last_time time.0) (ltb time.0 s.latest.0) others e
+  rows_first =
+      row_first (not (is_sound s)) 1 _ _ others
+      (row_first (ltb last_time time.0) 3 _ _ others (row_first (ltb time.0 s.latest.0) 4 _ _ others refl))
+
+  pub rows_bar : (n : ℕ) → state_and_time s time None ≡ Some n → state_and_time s time others ≡ Some n
+  rows_bar n e = rows_first ∙ ap (λ (o : Option ℕ). option_or o others) e
 
   pub rows_leave : state_and_time s time None ≡ None → state_and_time s time others ≡ others
-  unfolding state_and_time
-  rows_leave e = left_by (is_sound s) (ltb last_time time.0) (ltb time.0 s.latest.0) others e
+  rows_leave e = rows_first ∙ ap (λ (o : Option ℕ). option_or o others) e
 
 -- Row 5 behind them.
 module _ (s : Interface) (time : Time) (room : ℕ) where
@@ -50,29 +46,16 @@ module _ (s : Interface) (time : Time) (room : ℕ) where
 pub ruleset room_ends = (room_bars, room_refuses, room_passes)
 
 -- All four, before a call's others.
-room_barred : (n : ℕ) (sound above below short : Bool) (others : Option ℕ) →
-    (1 if not sound else 3 if above else 4 if below else 5 if short else None) ≡ Some n →
-    (1 if not sound else 3 if above else 4 if below else 5 if short else others) ≡ Some n
-room_barred n false above below short others e = e
-room_barred n true true below short others e = e
-room_barred n true false true short others e = e
-room_barred n true false false true others e = e
-room_barred n true false false false others e = cc
-
-room_left : (sound above below short : Bool) (others : Option ℕ) →
-    (1 if not sound else 3 if above else 4 if below else 5 if short else None) ≡ None →
-    (1 if not sound else 3 if above else 4 if below else 5 if short else others) ≡ others
-room_left false above below short others e = cc
-room_left true true below short others e = cc
-room_left true false true short others e = cc
-room_left true false false true others e = cc
-room_left true false false false others e = refl
-
 module _ (s : Interface) (time : Time) (room : ℕ) (others : Option ℕ) where
-  pub room_rows_bar : (n : ℕ) → state_time_and_room s time room None ≡ Some n → state_time_and_room s time room others ≡ Some n
+  room_rows_first : state_time_and_room s time room others ≡ option_or (state_time_and_room s time room None) others
   unfolding state_and_time
-  room_rows_bar n e = room_barred n (is_sound s) (ltb last_time time.0) (ltb time.0 s.latest.0) (ltb room frame_length) others e
+  room_rows_first =
+      row_first (not (is_sound s)) 1 _ _ others
+      (row_first (ltb last_time time.0) 3 _ _ others
+      (row_first (ltb time.0 s.latest.0) 4 _ _ others (row_first (ltb room frame_length) 5 _ _ others refl)))
+
+  pub room_rows_bar : (n : ℕ) → state_time_and_room s time room None ≡ Some n → state_time_and_room s time room others ≡ Some n
+  room_rows_bar n e = room_rows_first ∙ ap (λ (o : Option ℕ). option_or o others) e
 
   pub room_rows_leave : state_time_and_room s time room None ≡ None → state_time_and_room s time room others ≡ others
-  unfolding state_and_time
-  room_rows_leave e = room_left (is_sound s) (ltb last_time time.0) (ltb time.0 s.latest.0) (ltb room frame_length) others e
+  room_rows_leave e = room_rows_first ∙ ap (λ (o : Option ℕ). option_or o others) e

@@ -1,21 +1,19 @@
 -- A law for each way that a function ends.
-use Prim.Native.Nat.{ℕ, ◌+◌, ◌≤◌}
+use Prim.Native.Nat.{ℕ, ◌≤◌}
 use mathlib.Core.Path.{◌≡◌, refl, sym, ◌∙◌}
-use mathlib.Core.Logic.{◌≢◌}
 use mathlib.Core.Bool.{Bool, true, false, not}
 use Rattle.std.specs.Prelude.{Option, None, Some}
 use lib.Dec.{leb}
-use borrow.Author.Tests.{eq-eqb, ne_eqb, leb-true}
+use borrow.Author.Tests.{leb-true}
 use Rattle.basis.specs.Times.{last_time}
 use Rattle.basis.specs.Answers.{◌if◌else◌}
 use Rattle.basis.specs.declared.Ipv4Address.{Ipv4Address}
 use Rattle.basis.specs.declared.Time.{Time}
-use Rattle.basis.specs.declared.Stage.TheVariants.{Probing}
 use Rattle.basis.specs.declared.Record.{Record}
 use Rattle.basis.specs.declared.Interface.{Interface}
 use Rattle.basis.specs.declared.Kind.TheVariants.{Taken}
-use Rattle.basis.proofs.BytesLaws.{and_both}
-use Rattle.basis_engine.specs.Timing.{wait, is_within, rfc5227}
+use Rattle.std.proofs.lemmas.Bool.{and_parts}
+use Rattle.basis_engine.specs.Timing.{rfc5227}
 use Rattle.basis_engine.specs.Slots.{lowest, is_none}
 use Rattle.basis_engine.specs.Interface.{is_allowed, is_policy, is_free, is_held}
 use Rattle.basis_engine.specs.Refusals.{state_and_time, is_too_soon, ask_refusal}
@@ -25,17 +23,6 @@ use Rattle.engine_admission.proofs.Rows.{rows_bar, rows_leave}
 use Rattle.engine_state.specs.declared.Change.{Change}
 use Rattle.engine_state.specs.Changes.{change_at, asking}
 use Rattle.engine_decisions.specs.Decisions.{Decides}
-
-pub claim_made : (time : Time) (address : Ipv4Address) (policy draw ms : ℕ) → ms ≡ wait rfc5227 draw →
-    record { address = address; policy = policy; stage = Probing 0 (record { 0 = time.0 + ms }) } ≡ new_claim rfc5227 time address policy draw
-claim_made time address policy draw ms e = rw e
-
-module _ (s : Interface) (time : Time) where
-  pub soon_limited : s.conflicts ≡ rfc5227.max_conflicts → (within : Bool) → within ≡ is_within rfc5227.rate_limit_interval time s.asked → within ≡ is_too_soon s time
-  soon_limited e within w = rw (eq-eqb s.conflicts rfc5227.max_conflicts e) w
-
-  pub soon_unlimited : s.conflicts ≢ rfc5227.max_conflicts → false ≡ is_too_soon s time
-  soon_unlimited e = rw (ne_eqb s.conflicts rfc5227.max_conflicts e)
 
 module _ (s : Interface) (time : Time) (address : Ipv4Address) (policy draw : ℕ) where
   pub ask_barred : (n : ℕ) → Some n ≡ state_and_time s time None → Some n ≡ ask_refusal s time address policy draw
@@ -81,16 +68,14 @@ module _ (s : Interface) (time : Time) (address : Ipv4Address) (policy draw : �
 -- `found` is the slot that is taken.
 pub ask_takes : (s : Interface) (time : Time) (address : Ipv4Address) (policy draw : ℕ) →
     (found : Option ℕ) → found ≡ lowest is_free s.records → (slot : ℕ) → found ≡ Some slot →
-    (claim : Record) → claim ≡ new_claim rfc5227 time address policy draw →
-    (taken : Change) → taken ≡ change_at s time (Some slot) claim → (change : Change) → change ≡ asking taken →
+    (at : Time) → at ≡ time → (claim : Record) → claim ≡ new_claim rfc5227 at address policy draw →
+    (taken : Change) → taken ≡ change_at s time (Some (slot, claim)) → (change : Change) → change ≡ asking taken →
     Decides s (ask_outcome s time address policy draw) (record { kind = Taken; change = change; frame = None })
 unfolding ask_outcome
-ask_takes s time address policy draw found f slot one claim c taken t change is =
-    rw (is, t) (record { accepts = refl; concerns = sym one ∙ f; changes = rw (← f, one, c); sends = refl })
+ask_takes s time address policy draw found f slot one at same claim c taken t change is =
+    rw (is, t) (record { accepts = refl; concerns = sym one ∙ f; changes = rw (← f, one, c, same); sends = refl })
 
 pub ask_policy : (policy : ℕ) (known : Bool) → known ≡ is_policy policy → known ≡ true → policy ≤ 3
-ask_policy policy known k e = leb-true policy 3 (and_both (leb 1 policy) (leb policy 3) (sym k ∙ e)).1
-
-pub ruleset soon_ends = (soon_limited, soon_unlimited)
+ask_policy policy known k e = leb-true policy 3 (and_parts (leb 1 policy) (leb policy 3) (sym k ∙ e)).1
 
 pub ruleset ask_ends = (ask_barred, ask_time, row_8, row_9, row_10, row_11, row_12, ask_policy)

@@ -2,7 +2,6 @@
 #![tactic(auto)]
 
 ghost use Rattle.std.specs.Prelude.{◌≡◌, ◌≤◌};
-ghost use Rattle.basis.specs.Times.{last_time};
 ghost use Rattle.basis_engine.specs.Timing.{rfc5227};
 ghost use Rattle.basis_engine.specs.Refusals.{is_too_soon, ask_refusal};
 ghost use Rattle.basis_engine.specs.Calls.{ask_outcome};
@@ -12,12 +11,11 @@ ghost use Rattle.engine_decisions.specs.Decisions.{Decided};
 use basis::{
     Interface, Ipv4Address, Kind, MAX_CONFLICTS, RATE_LIMIT_INTERVAL, Record, Refusal, Stage, Time,
 };
-use engine_admission::Judged;
+use engine_admission::{Admitted, Judged};
 use engine_decisions::Decision;
 use engine_state::Change;
 
 // Whether there were ten conflicts and less than 60,000 ms ago an ask.
-#[tactic(auto, using(crate::proofs::AskLaws::soon_ends))]
 fn is_too_soon(state: &Interface, time: Time) -> bool
     ensures { result ≡ is_too_soon state.now time }
 {
@@ -26,11 +24,12 @@ fn is_too_soon(state: &Interface, time: Time) -> bool
 }
 
 // The record of a new claim, with no probe sent.
-fn new_claim(time: Time, address: Ipv4Address, policy: u64, draw: u32) -> Record
-    requires { (time.0 ≤ last_time) × (policy ≤ 3) }
-    ensures { result ≡ Call.new_claim rfc5227 time address policy draw }
+#[tactic(auto, using(engine_admission::proofs::AdmissionLaws::admitted_time))]
+fn new_claim(admitted: Admitted<'_>, address: Ipv4Address, policy: u64, draw: u32) -> Record
+    requires { policy ≤ 3 }
+    ensures { result ≡ Call.new_claim rfc5227 admitted.entry.time address policy draw }
 {
-    let deadline = Time(time.0 + engine_timing::wait(draw));
+    let deadline = Time(admitted.time.0 + engine_timing::wait(draw));
     Record {
         address,
         policy: policy as u8,
@@ -50,7 +49,7 @@ pub fn ask(
     ensures { Decided judged.now.state (ask_refusal judged.now.state time address policy draw) (ask_outcome judged.now.state time address policy draw) result }
 {
     let state = &judged.state;
-    judged.admit(time)?;
+    let admitted = judged.admit(time)?;
     if !engine_sound_records::is_allowed(address) {
         return Err(Refusal::AddressNotAllowed);
     }
@@ -66,10 +65,10 @@ pub fn ask(
     if is_too_soon(state, time) {
         return Err(Refusal::AskedTooSoon);
     }
-    let claim = new_claim(time, address, policy, draw);
+    let claim = new_claim(admitted, address, policy, draw);
     Ok(Decision {
         kind: Kind::Taken,
-        change: Change::at(state, time, Some(slot), claim).asking(),
+        change: Change::at(state, time, Some((slot, claim))).asking(),
         frame: None,
     })
 }

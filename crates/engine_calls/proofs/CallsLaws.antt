@@ -150,23 +150,20 @@ module _ (s : Interface) (call : Call) (bytes : List ℕ) (room : ℕ) (decided 
   unfolding refusal_of outcome_of
   drop_decided time slot e says = rw (e, same) says
 
+-- Whatever refuses, what is the same in both cases stays.
+same_left : {A : Type 0} (a : A) (refusal : Option ℕ) → a ≡ leaves refusal a a
+same_left a None = refl
+same_left a (Some n) = refl
+
 -- Fresh hands out no frame, whatever is lent to it.
 module _ (s : Interface) (setup : Setup) (bytes out : List ℕ) where
-  nothing_sent : (refusal : Option ℕ) → out ≡ leaves refusal out out
-  nothing_sent None = refl
-  nothing_sent (Some n) = refl
-
-  no_frame : (refusal : Option ℕ) → false ≡ leaves refusal false false
-  no_frame None = refl
-  no_frame (Some n) = refl
-
   pub fresh_performed : (call : Call) → call ≡ Call.Fresh setup → (answer : Answer) (new : Interface) →
       Promised s (Call.Fresh setup) [] [] answer new [] → Promised s call bytes out answer new out
   unfolding result_of refusal_of outcome_of fresh_outcome
   fresh_performed call e answer new p =
-      rw e (record { answered = p.answered; handed_back = p.handed_back; written = nothing_sent (refusal_of s (Call.Fresh setup) bytes (length out)) })
+      rw e (record { answered = p.answered; handed_back = p.handed_back; written = same_left out (refusal_of s (Call.Fresh setup) bytes (length out)) })
 
   pub fresh_told : (call : Call) → call ≡ Call.Fresh setup →
       false ≡ leaves (refusal_of s call bytes (length out)) false (is_some (outcome_of s call bytes).frame)
   unfolding outcome_of fresh_outcome
-  fresh_told call e = rw e (no_frame (refusal_of s (Call.Fresh setup) bytes (length out)))
+  fresh_told call e = rw e (same_left false (refusal_of s (Call.Fresh setup) bytes (length out)))

@@ -6,15 +6,15 @@ ghost use Rattle.basis.specs.Answers.{leaves};
 ghost use Rattle.basis_engine.specs.Machine.{refusal_of, outcome_of, Promised};
 ghost use Rattle.engine_calls.specs.Performed.{is_sent};
 
-use basis::{Answer, Call, Called, Interface, Refusal};
+use basis::{Call, Called, Refusal};
 use engine_admission::Judged;
 use engine_decisions::Decision;
 
-// What a call came to: its answer, the state handed back, and whether a frame was handed out.
+// What a call came to: its answer and the state handed back, and whether a frame was handed out. That is a flag, since the frame stands in
+// the buffer that the caller lent, of which the promise speaks.
 #[derive(Clone, Copy)]
 pub struct Performed {
-    pub answer: Answer,
-    pub state: Interface,
+    pub called: Called,
     pub sent: bool,
 }
 
@@ -22,24 +22,20 @@ pub struct Performed {
 fn is_sent(decided: Result<Decision, Refusal>) -> bool
     ensures { result ≡ is_sent decided }
 {
-    match decided {
-        Ok(decision) => decision.frame.is_some(),
-        Err(_) => false,
-    }
+    decided.is_ok_and(|decision| decision.frame.is_some())
 }
 
-// Any call. A packet's bytes and the out buffer are lent to each; no other reads the bytes, and fresh, ask and drop leave the buffer
-// as it is.
+// Any call. A packet's bytes and the out buffer are lent to each, beside the call, which so is a value without a lifetime; no other reads
+// the bytes, and fresh, ask and drop leave the buffer as it is.
 pub fn perform(judged: &Judged, call: Call, bytes: &[u8], out: &mut [u8]) -> Performed
-    ensures promised { Promised judged.now.state call bytes.now out.old result.answer result.state out.new }
+    ensures promised { Promised judged.now.state call bytes.now out.old result.called.answer result.called.state out.new }
     ensures sent_value { result.sent ≡ leaves (refusal_of judged.now.state call bytes.now (length out.old)) false (is_some (outcome_of judged.now.state call bytes.now).frame) }
 {
+    // By `match`: each call has other arguments.
     let decided = match call {
         Call::Fresh(setup) => {
-            let Called { answer, state } = engine_port::fresh(judged.state, setup);
             return Performed {
-                answer,
-                state,
+                called: engine_port::fresh(judged.state, setup),
                 sent: false,
             };
         }
@@ -54,10 +50,8 @@ pub fn perform(judged: &Judged, call: Call, bytes: &[u8], out: &mut [u8]) -> Per
         Call::Drop { time, slot } => engine_port::drop(judged, time, slot),
     };
     let sent = is_sent(decided);
-    let Called { answer, state } = engine_decisions::carry_out(judged.state, decided, out);
     Performed {
-        answer,
-        state,
+        called: engine_decisions::carry_out(judged.state, decided, out),
         sent,
     }
 }

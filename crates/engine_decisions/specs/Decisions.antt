@@ -9,7 +9,7 @@ use Rattle.basis.specs.declared.Record.{Record}
 use Rattle.basis.specs.declared.Refusal.{Refusal}
 use Rattle.basis_engine.specs.Calls.{Outcome}
 use Rattle.basis_engine.specs.Deadlines.{smallest_deadline}
-use Rattle.engine_state.specs.Changes.{changed_by}
+use Rattle.engine_state.specs.Changes.{changed_by, slot_in}
 use Rattle.engine_decisions.specs.declared.Decision.{Decision}
 
 -- The out buffer after the write of the frame that goes out, if there is one.
@@ -20,7 +20,7 @@ sent_out (Some frame) out = write_out frame out
 -- A decision to do what this outcome says.
 pub record Decides (s : Interface) (outcome : Outcome) (d : Decision) : Type 0 where
   pub accepts : d.kind ≡ outcome.kind
-  pub concerns : d.change.slot ≡ outcome.slot
+  pub concerns : slot_in d.change.put ≡ outcome.slot
   pub changes : changed_by s d.change ≡ outcome.state
   pub sends : d.frame ≡ outcome.frame
 
@@ -31,7 +31,7 @@ Decided s refusal outcome (Ok d) = (None ≡ refusal) × Decides s outcome d
 
 -- What an accepted call reports that leaves these records.
 abbrev pub reported_of : Decision → List Record → Accepted
-reported_of d records = record { kind = d.kind; slot = d.change.slot; next = smallest_deadline records }
+reported_of d records = record { kind = d.kind; slot = slot_in d.change.put; next = smallest_deadline records }
 
 -- A decision carried out: what is handed back, and what is left of the out buffer that was lent.
 pub record Done (d : Decision) (s : Interface) (lent : List ℕ) (r : Called) (left : List ℕ) : Type 0 where

@@ -21,10 +21,9 @@ pub struct Decision {
 pub fn nothing(state: &Interface, time: Time) -> Decision
     ensures { Decides state.now (Calls.nothing state.now time) result }
 {
-    let change = Change::at(state, time, None, engine_slots::free_record());
     Decision {
         kind: Kind::Nothing,
-        change,
+        change: Change::at(state, time, None),
         frame: None,
     }
 }
@@ -53,7 +52,7 @@ pub fn carry_out(state: Interface, decided: Result<Decision, Refusal>, out: &mut
             let changed = decision.change.applied_to(state);
             let success = Success {
                 kind: decision.kind,
-                slot: decision.change.slot,
+                slot: decision.change.slot(),
                 next: engine_deadlines::smallest_deadline(&changed.records),
             };
             Called {

@@ -12,7 +12,7 @@ use Rattle.basis.specs.declared.Stage.TheVariants.{Free, Probing, Announced, Set
 use Rattle.basis.specs.declared.Time.{Time}
 use Rattle.basis.specs.declared.Frame.{Frame}
 use Rattle.basis.specs.declared.Kind.{Kind}
-use Rattle.basis_engine.specs.Timing.{rfc5227, gap}
+use Rattle.basis_engine.specs.Timing.{rfc5227}
 use Rattle.basis_engine.specs.Interface.{sender_of}
 use Rattle.basis_engine.specs.Calls.{delay, due_frame, stage_after}
 
@@ -46,15 +46,6 @@ module _ (setup : Setup) (claim : Record) where
 
 pub ruleset due_ends = (due_free, due_probe, due_first, due_second, due_settled)
 
-module _ (sent draw : ℕ) where
-  pub delay_probe : sent < rfc5227.probe_num → (ms : ℕ) → ms ≡ gap rfc5227 draw → ms ≡ delay rfc5227 sent draw
-  delay_probe h ms e = rw (lt-ltb sent rfc5227.probe_num h) e
-
-  pub delay_announce : rfc5227.probe_num ≤ sent → rfc5227.announce_wait ≡ delay rfc5227 sent draw
-  delay_announce h = rw (le-ltb sent rfc5227.probe_num h)
-
-pub ruleset delay_ends = (delay_probe, delay_announce)
-
 module _ (time : Time) (draw : ℕ) (stage : Stage) where
   pub after_free : stage ≡ Free → stage ≡ stage_after rfc5227 time draw stage
   unfolding stage_after
@@ -80,4 +71,4 @@ module _ (time : Time) (draw : ℕ) (stage : Stage) where
   unfolding stage_after
   after_second deadline conflict e = rw e
 
-pub ruleset after_ends = (after_free, after_probe, after_first, after_second, after_settled)
+pub ruleset after_ends = (after_free, after_second, after_settled)

@@ -13,7 +13,7 @@ ghost use Rattle.engine_due.specs.Due.{due_of};
 
 use basis::{ANNOUNCE_INTERVAL, ANNOUNCE_WAIT, Frame, Kind, PROBE_NUM, Record, Setup, Stage, Time};
 
-// The frame that is due: the kind that is reported of it, and the frame.
+// The frame that is due: the kind that is reported of it, and the frame. As in the definition `due_frame`, nothing due is a kind too.
 #[derive(Clone, Copy)]
 pub struct Due {
     pub kind: Kind,
@@ -42,7 +42,6 @@ pub fn due_frame(setup: Setup, claim: Record) -> Due
 }
 
 // The time from a probe to the next frame, with so many probes sent.
-#[tactic(auto, using(crate::proofs::DueLaws::delay_ends))]
 fn delay(probes: u8, draw: u32) -> u64
     ensures { (result ≡ Call.delay rfc5227 probes draw) × (result ≤ longest_delay) }
 {

@@ -1,10 +1,8 @@
 -- How what the inner functions promise makes up the call: a law for each way that a function ends.
-use Prim.Native.Nat.{ℕ, ◌+◌, ◌≤◌}
+use Prim.Native.Nat.{ℕ}
 use mathlib.Core.Path.{◌≡◌, refl, sym, ◌∙◌}
 use mathlib.Core.List.{List}
 use Rattle.std.specs.Prelude.{Option, None, Some}
-use native.Mathlib.Numerals.{add-one}
-use borrow.Author.Tests.{eq-eqb, ne_eqb}
 use Rattle.basis.specs.Answers.{refusal_number, refused, accepted}
 use Rattle.basis.specs.Frame.{frame_of, read_refusal, read_of}
 use Rattle.basis.specs.declared.Time.{Time}
@@ -20,29 +18,18 @@ use Rattle.basis_engine.specs.Conflicts.{is_conflict, count_up, resolution, reco
 use Rattle.basis_engine.specs.Refusals.{state_time_and_room, packet_refusal}
 use Rattle.basis_engine.specs.Calls.{nothing, resolve, meet, packet_outcome}
 use Rattle.basis_engine.specs.Timing.{rfc5227}
-use Rattle.basis_engine.proofs.Acceptance.{sound, roomy}
 use Rattle.engine_admission.proofs.Rows.{room_rows_bar, room_rows_leave}
 use Rattle.engine_state.specs.declared.Change.{Change}
 use Rattle.engine_state.specs.Changes.{change_at, counting}
 use Rattle.engine_decisions.specs.declared.Decision.{Decision}
 use Rattle.engine_decisions.specs.Decisions.{Decides}
 
-module _ (count : ℕ) where
-  pub count_full : count ≡ rfc5227.max_conflicts → count ≡ count_up rfc5227 count
-  count_full h = rw (eq-eqb count rfc5227.max_conflicts h)
-
-  pub count_adds : (count ≡ rfc5227.max_conflicts → ⊥) → count + 1 ≡ count_up rfc5227 count
-  count_adds h = rw (ne_eqb count rfc5227.max_conflicts h, add-one)
-
--- Each way that `count_up` ends.
-pub ruleset count_ends = (count_full, count_adds)
-
 -- `kind`, `count`, `new` and `frame` are what `resolution_kind`, `count_up`, `record_after` and `defence` made.
 pub is_resolution : (s : Interface) (time : Time) (slot : ℕ) (held : Record) (chosen : Resolution) →
     (kind : Kind) → kind ≡ resolution_kind chosen → (count : ℕ) → count ≡ count_up rfc5227 s.conflicts →
     (new : Record) → new ≡ record_after chosen time held →
     (frame : Option Frame) → frame ≡ defence s.setup held chosen →
-    (seen : Change) → seen ≡ change_at s time (Some slot) new → (change : Change) → change ≡ counting seen count →
+    (seen : Change) → seen ≡ change_at s time (Some (slot, new)) → (change : Change) → change ≡ counting seen count →
     Decides s (resolve s time slot held chosen) (record { kind = kind; change = change; frame = frame })
 is_resolution s time slot held chosen kind k count c new n frame f seen e change is =
     rw (is, e) (record { accepts = rw k; concerns = refl; changes = rw (c, n); sends = f })
@@ -73,10 +60,6 @@ module _ (s : Interface) (time : Time) (bytes : List ℕ) (room : ℕ) where
     unfolding packet_refusal
     left = room_rows_leave s time room (read_refusal bytes) (sym first)
 
-    -- A sound state's count is at most 10.
-    pub packet_count : s.conflicts ≤ rfc5227.max_conflicts
-    packet_count = (sound s (roomy s time room None (sym first)).0.sound).counted
-
     pub packet_unread : (refusal : Refusal) → refused (refusal_number refusal) ≡ read_of bytes →
         Some (refusal_number refusal) ≡ packet_refusal s time bytes room
     unfolding read_of
@@ -87,9 +70,9 @@ module _ (s : Interface) (time : Time) (bytes : List ℕ) (room : ℕ) where
       unfolding read_of
       packet_read = sym (left ∙ accepted_none (read_refusal bytes) f (frame_of bytes) said)
 
-      pub packet_met : (d : Decision) → Decides s (meet s time f (lowest (is_conflict s.setup f) s.records)) d →
-          Decides s (packet_outcome s time bytes) d
+      pub packet_met : (d : Decision) (at : Interface) → at ≡ s → (by : Time) → by ≡ time →
+          Decides at (meet at by f (lowest (is_conflict at.setup f) at.records)) d → Decides s (packet_outcome s time bytes) d
       unfolding packet_outcome read_of
-      packet_met d says = rw (accepted_same (read_refusal bytes) f (frame_of bytes) said) at says
+      packet_met d at a by b says = rw (accepted_same (read_refusal bytes) f (frame_of bytes) said, a, b) at says
 
-pub ruleset packet_ends = (packet_barred, packet_count, packet_unread, packet_read, packet_met)
+pub ruleset packet_ends = (packet_barred, packet_unread, packet_read, packet_met)

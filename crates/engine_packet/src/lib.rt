@@ -12,21 +12,16 @@ ghost use Rattle.basis_engine.specs.Calls as Call;
 ghost use Rattle.engine_decisions.specs.Decisions.{Decides, Decided};
 
 use basis::{Frame, Interface, MAX_CONFLICTS, Record, Refusal, Resolution, Setup, Time};
-use engine_admission::Judged;
+use engine_admission::{Admitted, Judged};
 use engine_decisions::Decision;
 use engine_state::Change;
 
 // Adds one to the conflict count unless it is 10.
-#[tactic(auto, using(crate::proofs::PacketLaws::count_ends))]
 fn count_up(count: u8) -> u8
     requires { count ≤ rfc5227.max_conflicts }
     ensures { result ≡ count_up rfc5227 count }
 {
-    if count == MAX_CONFLICTS {
-        count
-    } else {
-        count + 1
-    }
+    (count + 1).min(MAX_CONFLICTS)
 }
 
 // The frame that a resolution sends.
@@ -40,31 +35,31 @@ fn defence(setup: Setup, held: Record, chosen: Resolution) -> Option<Frame>
 }
 
 // The resolution to a conflict with the record in a slot.
-#[tactic(auto, using(crate::proofs::PacketLaws::is_resolution))]
-fn resolve(state: &Interface, time: Time, slot: u64, held: Record, chosen: Resolution) -> Decision
-    requires { state.now.conflicts ≤ rfc5227.max_conflicts }
-    ensures { Decides state.now (Call.resolve state.now time slot held chosen) result }
+#[tactic(auto, using(crate::proofs::PacketLaws::is_resolution, engine_admission::proofs::AdmissionLaws::admitted_count))]
+fn resolve(admitted: Admitted<'_>, slot: u64, held: Record, chosen: Resolution) -> Decision
+    ensures { Decides admitted.entry.state.now (Call.resolve admitted.entry.state.now admitted.entry.time slot held chosen) result }
 {
+    let Admitted { state, time } = admitted;
     let after = engine_resolution::record_after(chosen, time, held);
     Decision {
         kind: engine_resolution::resolution_kind(chosen),
-        change: Change::at(state, time, Some(slot), after).counting(count_up(state.conflicts)),
+        change: Change::at(state, time, Some((slot, after))).counting(count_up(state.conflicts)),
         frame: defence(state.setup, held, chosen),
     }
 }
 
 // Meets a frame that was read.
 #[tactic(auto, using(crate::proofs::PacketLaws::meet_ends))]
-fn meet(state: &Interface, time: Time, frame: Frame) -> Decision
-    requires { state.now.conflicts ≤ rfc5227.max_conflicts }
-    ensures { Decides state.now (Call.meet state.now time frame (lowest (is_conflict state.now.setup frame) state.now.records)) result }
+fn meet(admitted: Admitted<'_>, frame: Frame) -> Decision
+    ensures { Decides admitted.entry.state.now (Call.meet admitted.entry.state.now admitted.entry.time frame (lowest (is_conflict admitted.entry.state.now.setup frame) admitted.entry.state.now.records)) result }
 {
+    let Admitted { state, time } = admitted;
     match engine_conflicts::conflict_slot(state.setup, &frame, &state.records) {
         None => engine_decisions::nothing(state, time),
         Some(slot) => {
             let held = engine_slots::record_at(&state.records, slot);
             let chosen = engine_resolution::resolution(held, time);
-            resolve(state, time, slot, held, chosen)
+            resolve(admitted, slot, held, chosen)
         }
     }
 }
@@ -74,7 +69,7 @@ fn meet(state: &Interface, time: Time, frame: Frame) -> Decision
 pub fn packet(judged: &Judged, time: Time, bytes: &[u8], room: usize) -> Result<Decision, Refusal>
     ensures { Decided judged.now.state (packet_refusal judged.now.state time bytes.now room) (packet_outcome judged.now.state time bytes.now) result }
 {
-    judged.admit_with_room(time, room)?;
+    let admitted = judged.admit_with_room(time, room)?;
     let frame = frame_reader::read(bytes)?;
-    Ok(meet(&judged.state, time, frame))
+    Ok(meet(admitted, frame))
 }

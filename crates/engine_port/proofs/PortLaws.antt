@@ -64,7 +64,7 @@ module _ (s : Interface) (time : Time) (slot : ℕ) where
     unfolding drop_refusal
     no_row e = sym (rows_leave s time _ (sym first) ∙ rw (← tested, e))
 
-  pub drop_frees : (free : Record) → free ≡ free_record → (change : Change) → change ≡ change_at s time (Some slot) free →
+  pub drop_frees : (free : Record) → free ≡ free_record → (change : Change) → change ≡ change_at s time (Some (slot, free)) →
       Decides s (drop_outcome s time slot) (record { kind = Dropped; change = change; frame = None })
   unfolding drop_outcome
   drop_frees free f change c = rw (c, f) (record { accepts = refl; concerns = refl; changes = refl; sends = refl })

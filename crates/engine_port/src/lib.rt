@@ -58,7 +58,7 @@ pub fn drop(judged: &Judged, time: Time, slot: u64) -> Result<Decision, Refusal>
     let free = engine_slots::free_record();
     Ok(Decision {
         kind: Kind::Dropped,
-        change: Change::at(state, time, Some(slot), free),
+        change: Change::at(state, time, Some((slot, free))),
         frame: None,
     })
 }

@@ -62,7 +62,7 @@ pub fn record_after(resolution: Resolution, now: Time, held: Record) -> Record
     }
 }
 
-// The kind that a resolution is reported as.
+// The kind that a resolution is reported as. Not a `From`: that would have to stand in basis with the two types, which holds no rule.
 pub fn resolution_kind(resolution: Resolution) -> Kind
     ensures { result ≡ resolution_kind resolution }
 {

@@ -21,8 +21,8 @@ pub fn free_record() -> Record
     }
 }
 
-// The record in a slot: the free one above the last. Each of the four is named: an index that may be any of them would keep them
-// all in memory, and a line would take 8 in 100 more instructions. So it is in `put_at`.
+// The record in a slot: above the last the free one, as in the definition. Each of the four is named: an index that may be any of
+// them would keep them all in memory, and a line would take 8 in 100 more instructions. So it is in `put_at`.
 pub fn record_at(records: &[Record; 4], slot: u64) -> Record
     ensures { result ≡ record_at records.now slot }
 {

@@ -8,7 +8,7 @@ ghost use Rattle.basis_engine.specs.Interface.{is_allowed, is_policy, is_past, i
 
 use basis::{Ipv4Address, LONGEST_DELAY, PROBE_NUM, Record, Stage, Time};
 
-// Whether an address has a first byte from 1 to 223, 127 excepted.
+// Whether an address has a first byte from 1 to 223, 127 excepted. That byte by a division, as the definition has it.
 #[tactic(auto, unfolding(basis_engine::specs::Interface::is_allowed))]
 pub fn is_allowed(address: Ipv4Address) -> bool
     ensures { result ≡ is_allowed address }
@@ -31,7 +31,8 @@ pub fn is_past(latest: Time, moment: Option<Time>) -> bool
     moment.is_none_or(|time| time <= latest)
 }
 
-// Whether a deadline is at most the latest time plus 2,000. Of a state that isn't sound that sum may not fit.
+// Whether a deadline is at most the latest time plus 2,000. Of a state that isn't sound that sum may not fit. By `.0`: the difference
+// is a number of ms.
 fn is_near(latest: Time, deadline: Time) -> bool
     ensures { result ≡ is_near latest deadline }
 {

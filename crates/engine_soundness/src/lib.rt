@@ -6,13 +6,13 @@ ghost use Rattle.basis_engine.specs.Interface.{is_alone, is_own_hardware, is_sou
 
 use basis::{HARDWARE_END, HardwareAddress, Interface, LAST_TIME, MAX_CONFLICTS, Record, Setup};
 
-// Whether an own hardware address has 48 bits, isn't zero, and its first byte is even.
+// Whether an own hardware address has 48 bits, isn't zero, and its first byte is even. That byte by a division, as the definition has it.
 #[tactic(auto, unfolding(basis_engine::specs::Interface::is_own_hardware))]
 fn is_own_hardware(address: HardwareAddress) -> bool
     ensures { result ≡ is_own_hardware address }
 {
     let bits = address.0;
-    bits < HARDWARE_END && bits != 0 && bits / 1099511627776 % 2 == 0
+    address < HARDWARE_END && bits != 0 && bits / 1099511627776 % 2 == 0
 }
 
 // Whether this can be chosen at fresh.
@@ -46,7 +46,7 @@ pub fn is_sound(state: &Interface) -> bool
     ensures { result ≡ is_sound state.now }
 {
     is_sound_setup(state.setup)
-        && state.latest.0 <= LAST_TIME
+        && state.latest <= LAST_TIME
         && state.conflicts <= MAX_CONFLICTS
         && engine_sound_records::is_past(state.latest, state.asked)
         && engine_sound_records::are_sound(state.latest, &state.records)

@@ -3,7 +3,7 @@
 
 ghost use Rattle.std.specs.Prelude.{◌≡◌};
 ghost use Rattle.basis_engine.specs.Interface.{new_interface};
-ghost use Rattle.engine_state.specs.Changes.{changed_by, change_at};
+ghost use Rattle.engine_state.specs.Changes.{changed_by, change_at, slot_in};
 ghost use Rattle.engine_state.specs.Changes as Changes;
 
 use basis::{Interface, Record, Setup, Stage, Time};
@@ -21,29 +21,34 @@ pub fn new_interface(setup: Setup) -> Interface
     }
 }
 
-// What becomes of a state: its latest time, the time of its latest ask, its count, and the record in the slot concerned, if there
-// is one. What was chosen at fresh is kept.
+// What becomes of a state: its latest time, the time of its latest ask, its count, and the slot concerned with the record that is put
+// there, if there is one. What was chosen at fresh is kept.
 #[derive(Clone, Copy)]
 pub struct Change {
     pub latest: Time,
     pub asked: Option<Time>,
     pub conflicts: u8,
-    pub slot: Option<u64>,
-    pub held: Record,
+    pub put: Option<(u64, Record)>,
 }
 
 impl Change {
-    // Another latest time, and this record in the slot concerned; the rest is kept.
-    pub fn at(state: &Interface, time: Time, slot: Option<u64>, held: Record) -> Self
-        ensures { result ≡ change_at state.now time slot held }
+    // Another latest time, and what is put in a slot, if anything is; the rest is kept.
+    pub fn at(state: &Interface, time: Time, put: Option<(u64, Record)>) -> Self
+        ensures { result ≡ change_at state.now time put }
     {
         Change {
             latest: time,
             asked: state.asked,
             conflicts: state.conflicts,
-            slot,
-            held,
+            put,
         }
+    }
+
+    // The slot concerned.
+    pub fn slot(self) -> Option<u64>
+        ensures { result ≡ slot_in self.put }
+    {
+        self.put.map(|(slot, _)| slot)
     }
 
     // The same with another count.
@@ -70,11 +75,15 @@ impl Change {
     pub fn applied_to(self, state: Interface) -> Interface
         ensures { result ≡ changed_by state self }
     {
+        let records = match self.put {
+            Some((slot, held)) => engine_slots::put_at(state.records, Some(slot), held),
+            None => state.records,
+        };
         Interface {
             latest: self.latest,
             asked: self.asked,
             conflicts: self.conflicts,
-            records: engine_slots::put_at(state.records, self.slot, self.held),
+            records,
             ..state
         }
     }
@@ -102,7 +111,8 @@ fn slot(from: Record) -> Record
 }
 
 // A copy with its stages made anew. By hand: a plain copy, and `clone`, take along the bytes that lie between a stage's fields, and
-// in a loop that carries a state a line takes 18 in 100 more instructions. Each slot is named: `map` takes 3 in 100 more.
+// in a loop that carries a state a line takes 18 in 100 more instructions. Each slot is named: `map` takes 3 in 100 more, where a line
+// is to take no more than it did.
 pub fn copy(from: Interface) -> Interface
     ensures { result ≡ from }
 {

@@ -1,8 +1,7 @@
 -- A law for each way that a function ends.
-use Prim.Native.Nat.{ℕ, ◌≤◌}
-use mathlib.Core.Path.{◌≡◌, refl, sym}
+use Prim.Native.Nat.{ℕ}
+use mathlib.Core.Path.{◌≡◌, refl}
 use Rattle.std.specs.Prelude.{None, Some, Option}
-use Rattle.basis.specs.Times.{last_time}
 use Rattle.basis.specs.declared.Time.{Time}
 use Rattle.basis.specs.declared.Record.{Record}
 use Rattle.basis.specs.declared.Stage.{Stage}
@@ -12,7 +11,6 @@ use Rattle.basis_engine.specs.Deadlines.{due_slot}
 use Rattle.basis_engine.specs.Refusals.{state_time_and_room, tick_refusal}
 use Rattle.basis_engine.specs.Calls.{due_frame, stage_after, serve, tick_outcome, nothing}
 use Rattle.basis_engine.specs.Timing.{rfc5227}
-use Rattle.basis_engine.proofs.Acceptance.{roomy}
 use Rattle.engine_state.specs.declared.Change.{Change}
 use Rattle.engine_state.specs.Changes.{change_at}
 use Rattle.engine_decisions.specs.declared.Decision.{Decision}
@@ -24,29 +22,24 @@ module _ (s : Interface) (time : Time) (draw : ℕ) where
   -- `claim` is the slot's record, `due` the frame that is due of it, and `stage` what its sending leaves.
   pub slot_served : (slot : ℕ) (claim : Record) → claim ≡ record_at s.records slot →
       (due : Due) → due_of due ≡ due_frame rfc5227 s.setup claim → (stage : Stage) → stage ≡ stage_after rfc5227 time draw claim.stage →
-      (change : Change) → change ≡ change_at s time (Some slot) (with_stage claim stage) →
+      (change : Change) → change ≡ change_at s time (Some (slot, with_stage claim stage)) →
       Decides s (serve s time draw (Some slot)) (record { kind = due.kind; change = change; frame = due.frame })
   slot_served slot claim c due told stage after change is =
       rw (← c, ← told, ← after, is) (record { accepts = refl; concerns = refl; changes = refl; sends = refl })
 
-  pub tick_barred : (room n : ℕ) → Some n ≡ state_time_and_room s time room None → Some n ≡ tick_refusal s time draw room
+  pub tick_refused : (room : ℕ) (refusal : Option ℕ) → refusal ≡ state_time_and_room s time room None
+      → refusal ≡ tick_refusal s time draw room
   unfolding tick_refusal
-  tick_barred room n e = e
-
-  pub tick_passed : (room : ℕ) → None ≡ state_time_and_room s time room None → None ≡ tick_refusal s time draw room
-  unfolding tick_refusal
-  tick_passed room e = e
-
-  pub tick_time : (room : ℕ) → None ≡ state_time_and_room s time room None → time.0 ≤ last_time
-  tick_time room e = (roomy s time room None (sym e)).0.in_range
+  tick_refused room refusal e = e
 
   module _ (d : Decision) (slot : Option ℕ) (due : slot ≡ due_slot time s.records) where
     pub tick_nothing : slot ≡ None → Decides s (nothing s time) d → Decides s (tick_outcome s time draw) d
     unfolding tick_outcome
     tick_nothing e says = rw (← due, e) says
 
-    pub tick_serves : (n : ℕ) → slot ≡ Some n → Decides s (serve s time draw (Some n)) d → Decides s (tick_outcome s time draw) d
+    pub tick_serves : (n : ℕ) → slot ≡ Some n → (at : Interface) → at ≡ s → (by : Time) → by ≡ time →
+        Decides at (serve at by draw (Some n)) d → Decides s (tick_outcome s time draw) d
     unfolding tick_outcome
-    tick_serves n e says = rw (← due, e) says
+    tick_serves n e at a by b says = rw (← due, e, ← a, ← b) says
 
-pub ruleset tick_ends = (tick_barred, tick_passed, tick_time, tick_nothing, tick_serves)
+pub ruleset tick_ends = (tick_refused, tick_nothing, tick_serves)

@@ -11,17 +11,18 @@ use basis::{PROBE_MAX, PROBE_MIN, PROBE_WAIT, Time};
 pub fn wait(draw: u32) -> u64
     ensures { result ≡ Timing.wait rfc5227 draw }
 {
-    draw as u64 % (PROBE_WAIT + 1)
+    u64::from(draw) % (PROBE_WAIT + 1)
 }
 
 // A gap between two probes, in ms.
 pub fn gap(draw: u32) -> u64
     ensures { result ≡ Timing.gap rfc5227 draw }
 {
-    PROBE_MIN + draw as u64 % (PROBE_MAX - PROBE_MIN + 1)
+    PROBE_MIN + u64::from(draw) % (PROBE_MAX - PROBE_MIN + 1)
 }
 
-// Whether something happened less than so many ms ago. A time still ahead counts as less than any interval ago.
+// Whether something happened less than so many ms ago. A time still ahead counts as less than any interval ago. By `.0`: the
+// difference of two times is a number of ms and no time.
 pub fn is_within(ms: u64, now: Time, last: Option<Time>) -> bool
     ensures { result ≡ is_within ms now last }
 {

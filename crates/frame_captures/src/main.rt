@@ -11,7 +11,8 @@ use std::io::{ErrorKind, Read};
 // A line's bytes: two hex digits for each of a frame, and its end.
 const LINE_LENGTH: usize = 2 * FRAME_LENGTH + 1;
 
-// The value of a hex digit. The input is our own data: on any other byte it gives some digit.
+// The value of a hex digit. The input is our own data: on any other byte it gives some digit, where the readers of lines and of the
+// library refuse.
 fn digit(c: u8) -> u8
     ensures { result < 16 }
 {

@@ -12,21 +12,21 @@ fn is_writable(frame: Frame) -> bool
     ensures { result ≡ is_writable frame }
 {
     frame::is_known_operation(frame.operation)
-        && frame.sender.hardware.0 < HARDWARE_END
-        && frame.target.hardware.0 < HARDWARE_END
+        && frame.sender.hardware < HARDWARE_END
+        && frame.target.hardware < HARDWARE_END
 }
 
 // Writes a frame to the first 28 bytes, or nothing.
-#[tactic(auto, unfolding(basis::specs::Frame::write_of, basis::specs::Frame::write_refusal, basis::specs::Frame::write_out, basis::specs::Frame::frame_put))]
+#[tactic(auto, using(crate::proofs::WriterLaws::unwritable), unfolding(basis::specs::Frame::write_of, basis::specs::Frame::write_refusal, basis::specs::Frame::write_out, basis::specs::Frame::frame_put))]
 pub fn write(frame: Frame, out: &mut [u8]) -> Result<(), Refusal>
     ensures { (write_report result ≡ write_of frame (length out.old)) × (out.new ≡ write_out frame out.old) }
 {
-    if out.len() < FRAME_LENGTH {
+    let Some(start) = out.first_chunk_mut::<FRAME_LENGTH>() else {
         return Err(Refusal::BufferTooShort);
-    }
+    };
     if !is_writable(frame) {
         return Err(Refusal::FrameUnknown);
     }
-    out[..FRAME_LENGTH].copy_from_slice(&frame_image::image(frame));
+    *start = frame_image::image(frame);
     Ok(())
 }

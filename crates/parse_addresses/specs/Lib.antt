@@ -1,2 +1,2 @@
--- What the readings of src/ stand for.
+-- What the loop of src/ has left to read.
 pub mod Dotted

@@ -22,7 +22,7 @@ use Rattle.basis_lines.specs.Fields.{tab, parts, first_part, ◌then◌}
 use Rattle.basis_lines.specs.Numbers.{number, largest}
 use Rattle.basis_lines.specs.Forms.{longest_line, call_of, call_in, fresh_word, ask_word, tick_word, packet_word, drop_word, fresh_call}
 use Rattle.basis_lines.proofs.FieldLaws.{first_length, one_part, more_parts, separated}
-use Rattle.parse_numbers.specs.declared.First.{First}
+use Rattle.parse_numbers.specs.declared.Digits.{Digits}
 use Rattle.parse_forms.specs.declared.Parsed.{Parsed}
 use Rattle.parse_forms.specs.Commands.{asked, made_of, headed, Makes, if_count}
 use Rattle.parse_forms.proofs.Counts.{ReadNext, alone, unread, goes_on}
@@ -62,20 +62,21 @@ time_next Form.Packet = record { not_last = omega arith; reads = λ x ys. time_t
 time_next Form.Ask = record { not_last = omega arith; reads = λ x ys. time_then (number largest x) _ }
 time_next Form.Drop = record { not_last = omega arith; reads = λ x ys. time_then (number largest x) _ }
 
-module _ (form : Form) (rest head : List ℕ) (first : Option First) (read : option_map (λ f. f.value) first ≡ number largest (first_part tab rest)) where
+module _ (form : Form) (rest head : List ℕ) (first : Option Digits)
+    (read : option_map (λ f. f.value) first ≡ number largest (first_part tab rest)) where
   pub no_time : first ≡ None → Makes None head (behind_word form rest)
   no_time none = none_makes head _ (sym (unread (time_next form) rest (sym read ∙ ap (option_map (λ f. f.value)) none)))
 
-  module _ (f : First) (some : first ≡ Some f) (ends : f.length ≡ length (first_part tab rest)) where
-    pub time_alone : length rest ≤ f.length → Makes None head (behind_word form rest)
+  module _ (f : Digits) (some : first ≡ Some f) (ends : f.count ≡ length (first_part tab rest)) where
+    pub time_alone : length rest ≤ f.count → Makes None head (behind_word form rest)
     time_alone all = none_makes head _ (sym (alone (time_next form) rest (omega (arith, all, ends))))
 
-    pub time_read : f.length < length rest → (fields : List ℕ) → fields ≡ drop (suc f.length) rest → (r : Option Parsed)
+    pub time_read : f.count < length rest → (fields : List ℕ) → fields ≡ drop (suc f.count) rest → (r : Option Parsed)
         → Makes r head (if_count (row_of form).count ((row_of form).call (record { 0 = f.value })) ([] ∷ [] ∷ parts tab fields))
         → Makes r head (behind_word form rest)
     time_read more fields behind r =
         subst (Makes r head)
-        (goes_on (time_next form) rest f.value f.length fields (sym read ∙ ap (option_map (λ f. f.value)) some) ends more behind)
+        (goes_on (time_next form) rest f.value f.count fields (sym read ∙ ap (option_map (λ f. f.value)) some) ends more behind)
 
 pub ruleset time_ends = (no_time, time_alone, time_read)
 

@@ -11,7 +11,7 @@ ghost use Rattle.parse_command.specs.Words.{row_of, untimed_call, behind_word};
 use basis::{FRAME_LENGTH, Time};
 use basis_lines::LONGEST_LINE;
 use parse_forms::{LARGEST, Parsed, TAB};
-use parse_numbers::First;
+use parse_numbers::Digits;
 
 // The forms whose word a time follows.
 #[derive(Clone, Copy)]
@@ -22,7 +22,8 @@ enum Form {
     Drop,
 }
 
-// The form of a line whose word a time follows, and what stands behind the word and its tab. The most frequent word first.
+// The form of a line whose word a time follows, and what stands behind the word and its tab. The most frequent word first. A table
+// would have the same four rows, and a loop with its law beside.
 fn timed_form(line: &[u8]) -> Option<(Form, &[u8])>
     ensures { MatchOption result (call_in (parts tab line.now) ≡ untimed_call (parts tab line.now))
         (λ found. call_in (parts tab line.now) ≡ behind_word found.0 found.1.now) }
@@ -40,7 +41,7 @@ fn timed_form(line: &[u8]) -> Option<(Form, &[u8])>
     Some((Form::Drop, rest))
 }
 
-// The fields behind the time, by the form's reader.
+// The fields behind the time, by the form's reader: a `match`, since one of them is lent a buffer too.
 fn read_fields(form: Form, time: Time, rest: &[u8], head: &mut [u8; FRAME_LENGTH]) -> Option<Parsed>
     ensures { Makes result head.new (if_count (row_of form).count ((row_of form).call time) ([] ∷ [] ∷ parts tab rest.now)) }
 {
@@ -57,9 +58,9 @@ fn read_fields(form: Form, time: Time, rest: &[u8], head: &mut [u8; FRAME_LENGTH
 fn read_timed(form: Form, rest: &[u8], head: &mut [u8; FRAME_LENGTH]) -> Option<Parsed>
     ensures { Makes result head.new (behind_word form rest.now) }
 {
-    let First {
+    let Digits {
         value: time,
-        length,
+        count: length,
     } = parse_numbers::first_number(rest, TAB, LARGEST)?;
     let fields = parse_fields::after(rest, length)?;
     read_fields(form, Time(time), fields, head)

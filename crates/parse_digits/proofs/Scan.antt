@@ -1,10 +1,12 @@
 -- Digits read one after the other: a law for each way that a function of src/ goes on or ends.
 use Rattle.std.proofs.Common.{ℕ, suc, ◌+◌, ◌-◌, ◌*◌, ◌<◌, ◌≤◌, min, ◌≡◌, refl, sym, ap, subst, ◌∙◌, Bool, true, false, true≢false, List, ◌∷◌, length, get_or, take, drop, arith, add-one, Some, length-take}
+use Rattle.std.proofs.lemmas.Grind.{get_or_default_zero}
 use native.Mathlib.Nat.{lt_of_lt_of_le, pow-succ', pow-le-pow_right}
 use lib.ListN.{get_or-eq_default}
 use lib.Seq.{drop-cons, get_or-take}
-use borrow.Author.Tests.{ne_eqb}
-use Rattle.basis.proofs.BytesLaws.{and_both}
+use lib.Dec.{ltb}
+use borrow.Author.Tests.{ltb-true, ne_eqb}
+use Rattle.std.proofs.lemmas.Bool.{and_parts}
 use Rattle.basis_lines.specs.Fields.{first_part, only}
 use Rattle.basis_lines.specs.Numbers.{is_digit, are_digits, value_after}
 use Rattle.basis_lines.proofs.FieldLaws.{first_other}
@@ -81,9 +83,9 @@ module _ (text : List ℕ) (most value i : ℕ) (limit : most ≡ min (length te
         }
 
     pub goes_on_19 : is_digit (get_or (take most text) i 0) ≡ true
-        → Begins text (10 * value + (get_or (take most text) i 0 - 48)) (i + 1)
-    goes_on_19 e =
-        rw here (begins_digit text value i before (omega (arith, length-take most text)) (ap is_digit (sym here) ∙ e))
+        → (digit : ℕ) → digit ≡ get_or (take most text) i 0 - 48 → Begins text (10 * value + digit) (i + 1)
+    goes_on_19 e digit is =
+        rw (is, here) (begins_digit text value i before (omega (arith, length-take most text)) (ap is_digit (sym here) ∙ e))
 
 pub ruleset scanned = (begins_none, room, goes_on_19, stops_19, read_19)
 
@@ -92,15 +94,18 @@ only_some : (is : Bool) (a b : ℕ) → Some a ≡ only is b → (is ≡ true) �
 only_some true a b e = (refl, cc)
 only_some false a b e = cc
 
-pub read_20 : (text : List ℕ) (value count new : ℕ) → Read 19 text value count → 19 ≤ count → 20 ≤ length text
-    → Some new ≡ only (is_next_digit value (get_or text 19 0)) (appended value (get_or text 19 0)) → Read 20 text new 20
-read_20 text value count new read all long told =
+pub read_20 : (text : List ℕ) (value count new : ℕ) → Read 19 text value count → 19 ≤ count
+    → (byte : ℕ) → true ≡ ltb 19 (length text) → byte ≡ get_or text 19 byte
+    → Some new ≡ only (is_next_digit value byte) (appended value byte) → Read 20 text new 20
+read_20 text value count new read all byte long found told =
+    let more : 19 < length text = ltb-true 19 (length text) (sym long) in
+    let is : byte ≡ get_or text 19 0 = found ∙ get_or_default_zero text 19 byte more in
     let is_19 : count ≡ 19 = omega (arith, read.at_most) in
-    let next = only_some (is_next_digit value (get_or text 19 0)) new (appended value (get_or text 19 0)) told in
+    let next = only_some (is_next_digit value byte) new (appended value byte) told in
     record {
-      begins = rw next.1
-          (begins_digit text value 19 (subst (Begins text value) is_19 read.begins) (omega arith)
-          (and_both (is_digit (get_or text 19 0)) _ next.0).0);
+      begins = rw (next.1, is)
+          (begins_digit text value 19 (subst (Begins text value) is_19 read.begins) more
+          (ap is_digit (sym is) ∙ (and_parts (is_digit byte) _ next.0).0));
       at_most = omega arith;
       stops = λ few. absurd (omega arith);
     }

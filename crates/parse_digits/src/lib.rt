@@ -23,7 +23,8 @@ fn with_next(value: u64, byte: u8) -> Option<u64>
     }
 }
 
-// The digits that a text begins with, 19 at most: whatever they are, they stand for less than 2^64.
+// The digits that a text begins with, 19 at most: whatever they are, they stand for less than 2^64, so that none is tested for it,
+// which takes time.
 #[tactic(auto, using(crate::proofs::Scan::scanned))]
 fn first_19(text: &[u8]) -> Digits
     ensures { Read 19 text.now result.value result.count }
@@ -34,7 +35,7 @@ fn first_19(text: &[u8]) -> Digits
         if !byte.is_ascii_digit() {
             return Digits { value, count };
         }
-        value = 10 * value + (*byte - b'0') as u64;
+        value = 10 * value + u64::from(*byte - b'0');
     }
     Digits { value, count: most }
 }
@@ -44,10 +45,13 @@ pub fn first_20(text: &[u8]) -> Digits
     ensures { Read 20 text.now result.value result.count }
 {
     let found = first_19(text);
-    if found.count < 19 || text.len() < 20 {
+    if found.count < 19 {
         return found;
     }
-    match with_next(found.value, text[19]) {
+    let Some(byte) = text.get(19) else {
+        return found;
+    };
+    match with_next(found.value, *byte) {
         Some(value) => Digits { value, count: 20 },
         None => found,
     }

@@ -50,7 +50,8 @@ last_field count call front last e refuses = ⊎_elim alone more (eq-or-lt_of_le
         (λ k. omega (arith, k, e, length-append front (first_part tab last ∷ parts tab rest), ap length (first_of_parts tab rest))))
 
 -- A test of what is read, before the reading or behind it.
-cond_then : {A B : Type 0} (test : Bool) (o : Option A) (next : A → Option B) → cond test (o then next) None ≡ (o then λ a. cond test (next a) None)
+cond_then : {A B : Type 0} (test : Bool) (o : Option A) (next : A → Option B)
+    → cond test (o then next) None ≡ (o then λ a. cond test (next a) None)
 cond_then true o next = refl
 cond_then false o next = sym (then_none o _ (λ a. refl))
 
@@ -73,7 +74,8 @@ module _ {A : Type 0} {count : ℕ} {front : List (List ℕ)} {call : List (List
       ∙ unless_count count call (front ++ (rest ∷ [])) (λ e. omega (arith, e, form.not_last, length-append front (rest ∷ [])))
 
   split : length (first_part tab rest) < length rest
-      → whole ≡ (read (first_part tab rest) then λ a. if_count count (next a) (front ++ ([] ∷ parts tab (drop (suc (length (first_part tab rest))) rest))))
+      → whole
+      ≡ (read (first_part tab rest) then λ a. if_count count (next a) (front ++ ([] ∷ parts tab (drop (suc (length (first_part tab rest))) rest))))
   split more =
       ap (λ ps. if_count count call (front ++ ps)) (more_parts tab rest more)
       ∙ ap (λ o. cond (eqb (length (front ++ (first ∷ others))) count) o None) (form.reads first others)

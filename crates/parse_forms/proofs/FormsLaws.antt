@@ -19,7 +19,7 @@ use Rattle.basis_lines.proofs.HexLaws.{foreign_in_bytes, foreign_in_hardware}
 use Rattle.parse_numbers.proofs.NumbersLaws.{separator_in_number}
 use Rattle.parse_hex.specs.HexValues.{head_of}
 use Rattle.parse_forms.specs.Commands.{headed, Makes, if_count}
-use Rattle.parse_numbers.specs.declared.First.{First}
+use Rattle.parse_numbers.specs.declared.Digits.{Digits}
 use Rattle.parse_forms.proofs.Counts.{last_field, ReadNext, alone, unread, goes_on}
 use Rattle.basis.specs.declared.Call.{Call}
 
@@ -77,7 +77,8 @@ module _ (t : Time) where
   packet_last = record { is_last = refl; reads = λ x. refl; no_tab = bytes_no_tab }
 
   pub draw_last : (wanted : Ipv4Address) (policy : ℕ)
-      → ReadLast 5 ([] ∷ [] ∷ [] ∷ [] ∷ []) (draw_at t wanted policy) (number largest_draw) (λ draw. made (Call.Ask t wanted policy draw) [])
+      → ReadLast 5 ([] ∷ [] ∷ [] ∷ [] ∷ []) (draw_at t wanted policy) (number largest_draw)
+      (λ draw. made (Call.Ask t wanted policy draw) [])
   draw_last wanted policy = record { is_last = refl; reads = λ x. refl; no_tab = number_no_tab largest_draw }
 
 module _ (last : List ℕ) (r : Option HardwareAddress) (told : r ≡ hardware last) where
@@ -117,7 +118,8 @@ cut t None = refl
 cut t (Some frame) = refl
 
 module _ (t : Time) (last : List ℕ) (r : Option ℕ) (head : List ℕ) (e : head_of r head ≡ option_map (take frame_length) (bytes last)) where
-  packet_whole : option_map (made (Call.Packet t)) (head_of r head) ≡ option_map headed (if_count 3 (packet_at t) ([] ∷ [] ∷ parts tab last))
+  packet_whole : option_map (made (Call.Packet t)) (head_of r head)
+      ≡ option_map headed (if_count 3 (packet_at t) ([] ∷ [] ∷ parts tab last))
   packet_whole = ap (option_map (made (Call.Packet t))) e ∙ cut t (bytes last) ∙ ap (option_map headed) (whole_last (packet_last t) last)
 
   pub packet_unread : r ≡ None → Makes None head (if_count 3 (packet_at t) ([] ∷ [] ∷ parts tab last))
@@ -153,18 +155,19 @@ module _ (t : Time) where
       address_read =
           goes_on address_next rest wanted (length second) third (ap address (sym cut_off) ∙ sym told ∙ is) (ap length cut_off) more behind
 
-      module _ (first : Option First) (read : option_map (λ f. f.value) first ≡ number largest (first_part tab third)) where
+      module _ (first : Option Digits) (read : option_map (λ f. f.value) first ≡ number largest (first_part tab third)) where
         pub no_policy : first ≡ None → None ≡ whole
         no_policy none = sym (unread (policy_next wanted) third (sym read ∙ ap (option_map (λ f. f.value)) none)) ∙ address_read
 
-        module _ (f : First) (some : first ≡ Some f) (ends : f.length ≡ length (first_part tab third)) where
-          pub policy_alone : length third ≤ f.length → None ≡ whole
+        module _ (f : Digits) (some : first ≡ Some f) (ends : f.count ≡ length (first_part tab third)) where
+          pub policy_alone : length third ≤ f.count → None ≡ whole
           policy_alone all = sym (alone (policy_next wanted) third (omega (arith, all, ends))) ∙ address_read
 
-          module _ (tab_behind : f.length < length third) (last : List ℕ) (last_is : last ≡ drop (suc f.length) third) where
+          module _ (tab_behind : f.count < length third) (last : List ℕ) (last_is : last ≡ drop (suc f.count) third) where
             policy_read : if_count 5 (draw_at t wanted f.value) ([] ∷ [] ∷ [] ∷ [] ∷ parts tab last) ≡ whole
             policy_read =
-                goes_on (policy_next wanted) third f.value f.length last (sym read ∙ ap (option_map (λ f. f.value)) some) ends tab_behind last_is
+                goes_on (policy_next wanted) third f.value f.count last (sym read ∙ ap (option_map (λ f. f.value)) some) ends tab_behind
+                last_is
                 ∙ address_read
 
             module _ (d : Option ℕ) (drawn : d ≡ number largest_draw last) where

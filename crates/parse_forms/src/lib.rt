@@ -11,16 +11,17 @@ ghost use Rattle.basis_lines.specs.Forms.{fresh_call, ask_at, tick_at, packet_at
 ghost use Rattle.parse_forms.specs.Commands.{asked, Makes, if_count};
 
 use basis::{Call, FRAME_LENGTH, Setup, Time};
-use parse_numbers::First;
+use parse_numbers::Digits;
 
 pub const TAB: u8 = b'\t';
 
 // The largest number, and the largest draw.
-pub const LARGEST: u64 = 18_446_744_073_709_551_615;
+pub const LARGEST: u64 = u64::MAX;
 
-const LARGEST_DRAW: u64 = 4_294_967_295;
+const LARGEST_DRAW: u64 = u32::MAX as u64;
 
-// What a line asks for, with how many bytes of a packet stand at the start of a buffer that the caller lends: the first 28 at most.
+// What a line asks for, with how many bytes of a packet stand at the start of a buffer that the caller lends: the first 28 at most. A
+// length beside a buffer: there is no heap.
 #[derive(Clone, Copy)]
 pub struct Parsed {
     pub call: Call,
@@ -45,7 +46,7 @@ pub fn fresh(rest: &[u8]) -> Option<Call>
     Some(Call::Fresh(Setup { hardware }))
 }
 
-// A draw, the last field.
+// A draw, the last field. By `as`: the reader is told the limit, and `try_from` would test it again.
 #[tactic(auto, using(crate::proofs::FormsLaws::draw_fits))]
 fn draw(last: &[u8]) -> Option<u32>
     ensures { result ≡ number largest_draw last.now }
@@ -92,9 +93,9 @@ pub fn ask(time: Time, rest: &[u8]) -> Option<Call>
     let second = parse_fields::part(rest, TAB);
     let address = parse_addresses::address(second)?;
     let rest = parse_fields::after(rest, second.len())?;
-    let First {
+    let Digits {
         value: policy,
-        length,
+        count: length,
     } = parse_numbers::first_number(rest, TAB, LARGEST)?;
     let last = parse_fields::after(rest, length)?;
     let draw = draw(last)?;

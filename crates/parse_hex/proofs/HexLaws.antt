@@ -1,58 +1,47 @@
 -- How what the inner functions promise makes up the definitions of the crate basis_lines: a law for each way that a function ends.
-use Prim.Native.Nat.{ℕ, ◌+◌, ◌*◌, ◌/◌, ◌%◌, ◌^◌, ◌≤◌, ◌<◌}
+use Prim.Native.Nat.{ℕ, ◌+◌, ◌-◌, ◌*◌, ◌/◌, ◌%◌, ◌≤◌, ◌<◌}
 use mathlib.Core.Path.{◌≡◌, refl, sym, ap, ap₂, ◌∙◌}
-use mathlib.Core.List.{List, [], ◌∷◌, ◌++◌}
+use mathlib.Core.List.{List, ◌++◌}
 use mathlib.Core.Bool.{Bool, true, false, cond, and-false}
 use Rattle.std.specs.Prelude.{None, Some, option_map}
-use native.Mathlib.Nat.{mul_assoc, pow-suc, pow-le-pow_right, lt_of_lt_of_le}
-use native.Mathlib.Numerals.{add-one}
 use native.Mathlib.Omega.{arith}
-use lib.ListN.{length, take, drop, length-append}
+use lib.ListN.{length, take, drop}
 use lib.Seq.{take-take, take_all}
 use Rattle.std.proofs.Common.{take-add}
-use lib.Arith.{digits_lt}
 use borrow.Author.Tests.{le-leb, lt-leb, eq-eqb, ne_eqb}
 use Rattle.basis.specs.Bytes.{number_of}
 use Rattle.basis.specs.Frame.{frame_length}
 use Rattle.basis_lines.specs.Numbers.{hex_bytes, bytes, hardware}
 use Rattle.parse_hex_digits.specs.HexText.{are_hex}
 use Rattle.parse_hex.specs.HexValues.{pairs}
-use Rattle.parse_hex.proofs.HexScan.{scanned, length_pairs}
+use Rattle.parse_hex.proofs.HexScan.{scanned, length_pairs, pair_at, pairs_from, pairs_first}
+
+-- The loop has read each pair.
+pub read_all : (text bytes : List ℕ) (i n : ℕ) → take i bytes ≡ take i (pairs text) → i ≡ n → n ≡ length text / 2 →
+    take n bytes ≡ pairs text
+read_all text bytes i n inv same e = rw same at inv ∙ take_all n (pairs text) (omega (arith, length_pairs text))
+
+pub ruleset reads = (pair_at, read_all, length_pairs)
 
 -- All bytes of a short text are its first 28.
-pub short_done : (text head : List ℕ) → length text < 2 * frame_length →
-    take (length text / 2) head ≡ take (length text / 2) (pairs text) →
-    take (length text / 2) head ≡ take frame_length (pairs text)
-short_done text head short inv =
-    inv
-    ∙ take_all (length text / 2) (pairs text) (omega (arith, length_pairs text))
-    ∙ sym (take_all frame_length (pairs text) (omega (arith, length_pairs text)))
+pub short_done : (text head : List ℕ) (n : ℕ) → length text < 2 * frame_length → take n head ≡ pairs text →
+    take n head ≡ take frame_length (pairs text)
+short_done text head n short is = is ∙ sym (take_all frame_length (pairs text) (omega (arith, length_pairs text)))
 
-pub ruleset kept = (length_pairs, short_done)
-
--- Behind the bytes that were there, the 16 that were copied.
-pub head_done : (head source bytes : List ℕ) (start : ℕ) → take start head ≡ take start source →
-    bytes ≡ take 16 (drop start source) →
-    take start head ++ bytes ≡ take (start + 16) source
-head_done head source bytes start inv is = ap₂ ◌++◌ inv is ∙ sym (take-add start 16 source)
+-- Behind the bytes that were there, the 16 that were read of a part of the text and copied.
+pub head_done : (text head bytes : List ℕ) (start end n : ℕ) → take start head ≡ take start (pairs text) → end ≡ 2 * (start + 16) →
+    length bytes ≤ n → take n bytes ≡ pairs (take (end - 2 * start) (drop (2 * start) text)) →
+    take start head ++ bytes ≡ take (start + 16) (pairs text)
+head_done text head bytes start end n inv h all is =
+    let part : end - 2 * start ≡ 2 * 16 = omega arith in
+    ap₂ ◌++◌ inv
+    (sym (take_all n bytes all)
+    ∙ is
+    ∙ rw (part, pairs_first 16 (drop (2 * start) text), pairs_from start text))
+    ∙ sym (take-add start 16 (pairs text))
 
 pub shorter : (head source : List ℕ) (n : ℕ) → take 16 head ≡ take 16 source → n ≤ 16 → take n head ≡ take n source
 shorter head source n e h = sym (take-take n 16 head h) ∙ ap (take n) e ∙ take-take n 16 source h
-
--- The loop over bytes that makes up their number.
-pub number_more : (bytes : List ℕ) (b : ℕ) → number_of (bytes ++ (b ∷ [])) ≡ number_of bytes * 256 + b
-number_more [] b = omega arith
-number_more (first ∷ bytes) b =
-    rw (number_more bytes b, length-append bytes (b ∷ []), add-one, pow-suc, ← mul_assoc) (omega arith)
-
-module _ (n i : ℕ) (inv : n < 256 ^ i) where
-  pub number_below : (b : ℕ) → b < 256 → n * 256 + b < 256 ^ (i + 1)
-  number_below b h = rw (add-one, pow-suc) (digits_lt inv h)
-
-  pub number_fits : i < 6 → n < 2 ^ 40
-  number_fits h = lt_of_lt_of_le inv (pow-le-pow_right {n = 256} (omega arith) {i = i} {j = 5} (omega arith))
-
-pub ruleset counted = (length_pairs, number_more, number_below)
 
 -- Each way that `hardware` and `bytes` end. `all` is what the test of the whole text answered.
 either : {A : Type 0} (a : A) (b : Bool) → cond b a a ≡ a

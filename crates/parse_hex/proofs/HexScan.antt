@@ -5,11 +5,11 @@ use mathlib.Core.List.{List, [], ◌∷◌}
 use mathlib.Core.Bool.{Bool, true, false, cond, ◌&&◌, ◌||◌, and-false, and_assoc}
 use Rattle.std.specs.Prelude.{Option, Some}
 use native.Mathlib.Omega.{arith}
-use native.Mathlib.Nat.{suc-add}
-use lib.ListN.{length, get_or}
+use lib.ListN.{length, get_or, take, drop}
+use Rattle.std.specs.Simd.{first_chunks}
 use lib.Dec.{eqb, leb}
 use borrow.Author.Tests.{leb-true, le-leb, lt-leb}
-use Rattle.basis.proofs.BytesLaws.{and_both}
+use Rattle.std.proofs.lemmas.Bool.{and_parts}
 use Rattle.basis_lines.specs.Fields.{only, ◌then◌}
 use Rattle.basis_lines.specs.Numbers.{is_digit, hex_digit, hex_bytes}
 use Rattle.parse_hex_digits.specs.HexText.{is_letter, is_hex, are_hex}
@@ -19,15 +19,15 @@ use Rattle.parse_hex.specs.HexValues.{value_of, pairs}
 digit_value : (b : ℕ) → is_digit b ≡ true → b - 48 ≡ value_of b
 unfolding value_of
 digit_value b e =
-    let least : 48 ≤ b = leb-true 48 b (and_both (leb 48 b) (leb b 57) e).0 in
-    let most : b ≤ 57 = leb-true b 57 (and_both (leb 48 b) (leb b 57) e).1 in
+    let least : 48 ≤ b = leb-true 48 b (and_parts (leb 48 b) (leb b 57) e).0 in
+    let most : b ≤ 57 = leb-true b 57 (and_parts (leb 48 b) (leb b 57) e).1 in
     rw (le-leb b 57 most) (omega (arith, least, most))
 
 letter_value : (b : ℕ) → is_letter b ≡ true → b - 87 ≡ value_of b
 unfolding value_of
 letter_value b e =
-    let least : 97 ≤ b = leb-true 97 b (and_both (leb 97 b) (leb b 102) e).0 in
-    let most : b ≤ 102 = leb-true b 102 (and_both (leb 97 b) (leb b 102) e).1 in
+    let least : 97 ≤ b = leb-true 97 b (and_parts (leb 97 b) (leb b 102) e).0 in
+    let most : b ≤ 102 = leb-true b 102 (and_parts (leb 97 b) (leb b 102) e).1 in
     rw (lt-leb b 57 (omega (arith, least))) (omega (arith, least, most))
 
 digit_only : (b : ℕ) → hex_digit b ≡ only (is_hex b) (value_of b)
@@ -69,13 +69,37 @@ length_pairs [] = refl
 length_pairs (high ∷ []) = refl
 length_pairs (high ∷ low ∷ text) = rw (length_pairs text) (omega arith)
 
-pub pair_at : (text : List ℕ) (i : ℕ) → i * 2 + 1 < length text →
-    value_of (get_or text (i * 2) 0) * 16 + value_of (get_or text (i * 2 + 1) 0) ≡ get_or (pairs text) i 0
+pub one_pair : (pair : List ℕ) → length pair ≡ 2 →
+    value_of (get_or pair 0 0) * 16 + value_of (get_or pair 1 0) ≡ get_or (pairs pair) 0 0
 unfolding pairs
-pair_at [] i h = absurd (omega arith)
-pair_at (high ∷ []) i h = absurd (omega arith)
-pair_at (high ∷ low ∷ text) zero h = refl
-pair_at (high ∷ low ∷ text) (suc i) h = rw (twice i, suc-add, suc-add) (pair_at text i (omega arith))
-  where
-    twice : (n : ℕ) → suc n * 2 ≡ suc (suc (n * 2))
-    twice n = omega arith
+one_pair [] h = absurd (omega arith)
+one_pair (high ∷ []) h = absurd (omega arith)
+one_pair (high ∷ low ∷ []) h = refl
+one_pair (high ∷ low ∷ b ∷ pair) h = absurd (omega arith)
+
+pub pair_at : (text : List ℕ) (n i : ℕ) → n ≡ length text / 2 → i < n →
+    get_or (pairs (get_or (first_chunks 2 n text) i [])) 0 0 ≡ get_or (pairs text) i 0
+unfolding pairs
+pair_at [] n i e h = absurd (omega arith)
+pair_at (high ∷ []) n i e h = absurd (omega arith)
+pair_at (high ∷ low ∷ text) zero i e h = absurd (omega arith)
+pair_at (high ∷ low ∷ text) (suc n) zero e h = refl
+pair_at (high ∷ low ∷ text) (suc n) (suc i) e h = pair_at text n i (omega (arith, e)) (omega arith)
+
+-- The pairs of a part.
+double : (n : ℕ) → 2 * suc n ≡ suc (suc (2 * n))
+double n = omega arith
+
+pub pairs_from : (start : ℕ) (text : List ℕ) → pairs (drop (2 * start) text) ≡ drop start (pairs text)
+unfolding pairs
+pairs_from zero text = refl
+pairs_from (suc start) [] = rw (double start) refl
+pairs_from (suc start) (high ∷ []) = rw (double start) refl
+pairs_from (suc start) (high ∷ low ∷ text) = rw (double start) (pairs_from start text)
+
+pub pairs_first : (n : ℕ) (text : List ℕ) → pairs (take (2 * n) text) ≡ take n (pairs text)
+unfolding pairs
+pairs_first zero text = refl
+pairs_first (suc n) [] = rw (double n) refl
+pairs_first (suc n) (high ∷ []) = rw (double n) refl
+pairs_first (suc n) (high ∷ low ∷ text) = rw (double n, pairs_first n text) refl

@@ -1,8 +1,8 @@
-// Hardware addresses and packet bytes, read from lower-case hex. The crate hex_digits checks a text whole before any of it is read.
+// Hardware addresses and packet bytes, read from lower-case hex. The crate parse_hex_digits checks a text whole before any of it is read.
 // Loops that do not end early and have a constant count compile to vector code.
 #![tactic(auto)]
 
-ghost use Rattle.std.specs.Prelude.{◌+◌, ◌*◌, ◌≤◌, ◌<◌, ◌≡◌, length, get_or, take, drop, option_map};
+ghost use Rattle.std.specs.Prelude.{◌+◌, ◌*◌, ◌/◌, ◌≤◌, ◌<◌, ◌≡◌, length, get_or, take, option_map};
 ghost use Rattle.basis.specs.Bytes.{number_of};
 ghost use Rattle.basis.specs.Frame.{frame_length};
 ghost use Rattle.basis_lines.specs.Numbers as Numbers;
@@ -31,77 +31,63 @@ fn value(b: u8) -> u8
     (b % 16 + letter_more(b)) % 16
 }
 
-// The i-th byte of a text: two digits each, the high one first.
-#[tactic(auto, using(crate::proofs::HexScan::pair_at))]
-fn byte_at(text: &[u8], i: usize) -> u8
-    requires { i * 2 + 1 < length text.now }
-    ensures { result ≡ get_or (pairs text.now) i 0 }
+// The byte of two digits, the high one first.
+#[tactic(auto, using(crate::proofs::HexScan::one_pair))]
+fn byte_of(pair: &[u8; 2]) -> u8
+    ensures { result ≡ get_or (pairs pair.now) 0 0 }
 {
-    let high = value(text[i * 2]);
-    let low = value(text[i * 2 + 1]);
-    high * 16 + low
+    let [high, low] = *pair;
+    value(high) * 16 + value(low)
+}
+
+// Writes the bytes of a text to the first places of `bytes`, and says how many there are. By the index of a pair: nothing is proved of
+// what a `zip` with `iter_mut` writes.
+#[tactic(auto, using(crate::proofs::HexLaws::reads, std::proofs::lemmas::Grind::common_steps))]
+fn read(text: &[u8], bytes: &mut [u8]) -> usize
+    requires { length text.now / 2 ≤ length bytes.old }
+    ensures count { result ≡ length text.now / 2 }
+    ensures value { take result bytes.new ≡ pairs text.now }
+{
+    let (pairs, _) = text.as_chunks::<2>();
+    for (i, pair) in pairs.iter().enumerate() {
+        bytes[i] = byte_of(pair);
+    }
+    pairs.len()
 }
 
 // The number that the six bytes of 12 digits stand for.
-#[tactic(auto, using(crate::proofs::HexLaws::counted, std::proofs::lemmas::Grind::common_steps))]
+#[tactic(auto, using(crate::proofs::HexScan::length_pairs, std::proofs::lemmas::Grind::common_steps))]
 fn number(text: &[u8]) -> u64
     requires { length text.now ≡ 12 }
     ensures { result ≡ number_of (pairs text.now) }
 {
-    let mut n: u64 = 0;
-    // By index: that is how the promise of `byte_at` counts, and pairs of digits would need one of their own.
-    for i in 0..6 {
-        n = n * 256 + byte_at(text, i) as u64;
-    }
-    n
+    let mut bytes = [0; 6];
+    read(text, &mut bytes);
+    frame::number(&bytes)
 }
 
-// Writes the bytes of a text that is shorter than a frame's to the head, and says how many there are.
-#[tactic(auto, using(crate::proofs::HexLaws::kept, std::proofs::lemmas::Grind::common_steps))]
-fn read_short(text: &[u8], head: &mut [u8]) -> usize
-    requires { (length text.now < 2 * frame_length) × (length head.old ≡ frame_length) }
-    ensures { take result head.new ≡ take frame_length (pairs text.now) }
-{
-    let count = text.len() / 2;
-    // By index, as in `number`.
-    for i in 0..count {
-        head[i] = byte_at(text, i);
-    }
-    count
-}
-
-// 16 bytes of a text. They stand in an array of their own, which the text cannot overlap, so that the loop compiles to vector code.
-#[tactic(auto, using(crate::proofs::HexScan::length_pairs, std::proofs::lemmas::Grind::common_steps))]
-fn sixteen(text: &[u8], start: usize) -> [u8; 16]
-    requires { (start + 16) * 2 ≤ length text.now }
-    ensures { result ≡ take 16 (drop start (pairs text.now)) }
-{
-    let mut bytes = [0u8; 16];
-    for (i, byte) in bytes.iter_mut().enumerate() {
-        *byte = byte_at(text, start + i);
-    }
-    bytes
-}
-
-// Writes 16 bytes of a text to the head, behind those that are there.
+// Writes 16 bytes of a text to the same place of the head, behind those that are there. They stand in an array of their own first, which
+// the text cannot overlap, so that the loop compiles to vector code.
 fn read_sixteen(text: &[u8], head: &mut [u8], start: usize)
     requires start_in_bounds { (start + 16) * 2 ≤ length text.now }
     requires head_len { (length head.old ≡ frame_length) × (start ≤ 12) }
     requires head_value { take start head.old ≡ take start (pairs text.now) }
     ensures { take (start + 16) head.new ≡ take (start + 16) (pairs text.now) }
 {
-    let bytes = sixteen(text, start);
+    let mut bytes = [0; 16];
+    read(&text[2 * start..2 * (start + 16)], &mut bytes);
     head[start..start + 16].copy_from_slice(&bytes);
 }
 
 // Writes the first 28 bytes of a text to the head, and says how many there are. 28 bytes are 16, and 16 more of which the first four
 // are there already.
+#[tactic(auto, using(crate::proofs::HexLaws::short_done))]
 fn read_head(text: &[u8], head: &mut [u8]) -> usize
     requires { length head.old ≡ frame_length }
     ensures { take result head.new ≡ take frame_length (pairs text.now) }
 {
     if text.len() < FRAME_DIGITS {
-        read_short(text, head)
+        read(text, head)
     } else {
         read_sixteen(text, head, 0);
         read_sixteen(text, head, 12);

@@ -13,7 +13,7 @@ use lib.Dec.{eqb, leb, ltb}
 use lib.ListN.{length, get_or, take, drop, drop_of_length-le}
 use lib.Seq.{drop-cons}
 use borrow.Author.Tests.{le-leb, lt-leb, leb-false, ltb-true, ltb-false}
-use Rattle.basis.proofs.BytesLaws.{and_both}
+use Rattle.std.proofs.lemmas.Bool.{and_parts}
 use Rattle.basis_lines.specs.Fields.{tab, parts, first_part, only}
 use Rattle.basis_lines.specs.Numbers.{is_digit, are_digits, is_empty, is_numeral, value_after, number, largest}
 use Rattle.basis_lines.proofs.FieldLaws.{first_separator, first_other, first_take, first_length, one_part, separated}
@@ -64,7 +64,8 @@ module _ (text : List ℕ) (value count most : ℕ) where
     pub no_first : is ≡ false → false ≡ is_first_number text value count most s
     no_first e = rw (← told, e)
 
-    pub first_if_end : is ≡ true → (end : Bool) → end ≡ is_empty (first_part s (drop count text)) → end ≡ is_first_number text value count most s
+    pub first_if_end : is ≡ true → (end : Bool) → end ≡ is_empty (first_part s (drop count text))
+        → end ≡ is_first_number text value count most s
     first_if_end e end ends = rw (← told, e) ends
 
 -- A number by its start and its digits.
@@ -122,7 +123,8 @@ module _ (s most : ℕ) (other : is_digit s ≡ false) (text : List ℕ) where
       ⊎_elim (λ whole. ap (number most) (sym (whole_part whole)) ∙ e) separator_in_number (eq-or-lt_of_le (first_length s text))
 
 -- The first part by the digits that are read of it.
-module _ (s most : ℕ) (other : is_digit s ≡ false) (fits : Fits w64 most) (text : List ℕ) (value count : ℕ) (read : Read 20 text value count) where
+module _ (s most : ℕ) (other : is_digit s ≡ false) (fits : Fits w64 most) (text : List ℕ) (value count : ℕ)
+    (read : Read 20 text value count) where
   -- It ends behind them.
   module _ (end : is_empty (first_part s (drop count text)) ≡ true) where
     nothing_left : first_part s (drop count text) ≡ []
@@ -138,7 +140,8 @@ module _ (s most : ℕ) (other : is_digit s ≡ false) (fits : Fits w64 most) (t
         start : has_numeral_start (first_part s text) ≡ has_numeral_start (take count text)
         start = ap has_numeral_start (first_take s text ∙ ap (λ k. take k text) (sym part_length))
 
-        go : (t : Bool) → has_numeral_start (take count text) ≡ t → number most (first_part s text) ≡ only (is_number text value count most) value
+        go : (t : Bool) → has_numeral_start (take count text) ≡ t
+            → number most (first_part s text) ≡ only (is_number text value count most) value
         go false e =
             no_numeral most (first_part s text) (start ∙ e)
             ∙ sym (ap (λ t. only (leb value most && t) value) e ∙ ap (λ t. only t value) (and-false (leb value most)))
@@ -164,7 +167,8 @@ module _ (s most : ℕ) (other : is_digit s ≡ false) (fits : Fits w64 most) (t
           ap (first_part s) (drop-cons text count 0 inside)
           ∙ first_other s (get_or text count 0) (drop (suc count) text) (byte_end text count s inside ∙ more)
 
-      by_start : is_next_digit value (get_or text count 0) ≡ false → (t : Bool) → has_numeral_start (first_part s text) ≡ t → number most (first_part s text) ≡ None
+      by_start : is_next_digit value (get_or text count 0) ≡ false → (t : Bool) → has_numeral_start (first_part s text) ≡ t
+          → number most (first_part s text) ≡ None
       by_start stop false e = no_numeral most (first_part s text) e
       by_start stop true e =
           numeral_number most (first_part s text) e
@@ -181,7 +185,7 @@ module _ (s most : ℕ) (other : is_digit s ≡ false) (fits : Fits w64 most) (t
   -- What the tests say of it.
   module _ (is : Bool) (told : is ≡ is_first_number text value count most s) where
     both : is ≡ true → (is_number text value count most ≡ true) × (is_empty (first_part s (drop count text)) ≡ true)
-    both e = and_both (is_number text value count most) _ (sym told ∙ e)
+    both e = and_parts (is_number text value count most) _ (sym told ∙ e)
 
     pub first_read : is ≡ true → Some value ≡ number most (first_part s text)
     first_read e = sym (part_number (both e).1 ∙ ap (λ t. only t value) (both e).0)

@@ -1,2 +1,2 @@
--- What the readings of src/ stand for.
+-- The tests that src/ makes of digits.
 pub mod Numerals

@@ -6,24 +6,14 @@ ghost use Rattle.basis_lines.specs.Fields.{first_part};
 ghost use Rattle.basis_lines.specs.Numbers as Numbers;
 ghost use Rattle.parse_numbers.specs.Numerals.{has_numeral_start, is_number, is_first_number};
 
-use parse_digits::Digits;
-
-// The first part of a text, if it is a number: what it stands for, and how long it is.
-#[derive(Clone, Copy)]
-pub struct First {
-    pub value: u64,
-    pub length: usize,
-}
+pub use parse_digits::Digits;
 
 // Whether a text's first part, if it goes on up to a place, ends there.
 #[tactic(auto, using(crate::proofs::NumbersLaws::end_ends))]
 fn is_end(text: &[u8], place: usize, separator: u8) -> bool
     ensures { result ≡ Numbers.is_empty (first_part separator (drop place text.now)) }
 {
-    match text.get(place) {
-        Some(byte) => *byte == separator,
-        None => true,
-    }
+    text.get(place).is_none_or(|byte| *byte == separator)
 }
 
 // Whether the first bytes of a text are some, and begin with a 0 only if that is all of them.
@@ -39,7 +29,8 @@ fn has_numeral_start(text: &[u8], count: usize) -> bool
     }
 }
 
-// Whether the digits that a text begins with are a number up to the largest allowed.
+// Whether the digits that a text begins with are a number up to the largest allowed. That they are some of the text is asked, here and
+// below: a type that keeps a text with its digits would be made and taken apart on this page alone.
 #[tactic(auto, using(crate::proofs::NumbersLaws::number_ends))]
 fn is_number(text: &[u8], found: Digits, most: u64) -> bool
     requires { found.count ≤ length text.now }
@@ -57,21 +48,19 @@ fn is_first_number(text: &[u8], found: Digits, most: u64, separator: u8) -> bool
     is_number(text, found, most) && is_end(text, found.count, separator)
 }
 
-// The first part as a number up to the largest allowed, in one pass: it ends where its digits end.
+// The first part as a number up to the largest allowed, in one pass: it ends where its digits end, so their count is its length. What
+// stands behind the separator the callers ask `parse_fields::after`, by two calls and a `?` each.
 #[tactic(auto, using(crate::proofs::NumbersLaws::first_number_ends))]
-pub fn first_number(text: &[u8], separator: u8, most: u64) -> Option<First>
+pub fn first_number(text: &[u8], separator: u8, most: u64) -> Option<Digits>
     requires { Numbers.is_digit separator ≡ false }
-    ensures number { option_map (λ first. first.value) result ≡ Numbers.number most (first_part separator text.now) }
-    ensures ends { IfSome result (λ first. first.length ≡ length (first_part separator text.now)) }
+    ensures number { option_map (λ digits. digits.value) result ≡ Numbers.number most (first_part separator text.now) }
+    ensures ends { IfSome result (λ digits. digits.count ≡ length (first_part separator text.now)) }
 {
     let found = parse_digits::first_20(text);
     if !is_first_number(text, found, most, separator) {
         return None;
     }
-    Some(First {
-        value: found.value,
-        length: found.count,
-    })
+    Some(found)
 }
 
 // A number up to the largest allowed.

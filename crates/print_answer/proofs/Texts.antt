@@ -1,17 +1,13 @@
 -- A text written part by part.
 use Rattle.std.proofs.Common.{◌≡◌, ℕ, ◌+◌, ◌-◌, ◌≤◌, List, ◌++◌, length, subst, take, drop, arith, length-append}
 use borrow.Rule.Slice.PartMut.{put_mid}
-use Rattle.std.proofs.lemmas.Grind.{common_steps}
 use Rattle.basis_lines.specs.Answers.{written}
+use Rattle.print_digits.proofs.Digits.{part_written}
 
 -- What a count and a buffer are once a text is written.
 pub record Wrote (text old : List ℕ) (count : ℕ) (new : List ℕ) : Type 0 where
   pub value : count ≡ length text
   pub out_after : new ≡ written text old
-
-part_written : (a b old : List ℕ) → length a + length b ≤ length old → let before = written a old in let room = length before - length a in
-    put_mid (length a) room before (written b (take room (drop (length a) before))) ≡ written (a ++ b) old
-part_written a b old fits = grind (arith, common_steps)
 
 -- A part more, in the rest of the buffer.
 pub part_more : (a b old : List ℕ) {n m : ℕ} {mid part : List ℕ} → n ≡ length a → mid ≡ written a old →

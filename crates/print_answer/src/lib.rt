@@ -1,4 +1,5 @@
-// An answer's text, written into an out buffer: document 01, "Output per line".
+// An answer's text, written into an out buffer: document 01, "Output per line". By hand, as all texts are (crate print_digits). Each
+// answer asks for room for the longest, here and in the crates above: an array of that length would ask for no more and no less.
 #![tactic(auto)]
 
 ghost use Rattle.std.specs.Prelude.{◌≤◌, ◌≡◌, [], ◌∷◌, length};
@@ -25,7 +26,8 @@ fn put_number(number: Option<u64>, out: &mut [u8]) -> usize
     }
 }
 
-// A tab and the frame in hex, if one was sent.
+// A tab and the frame in hex, if one was sent. Beside `put_number` by hand: a trait for both, with a text and a length for each type,
+// is longer than the second function.
 fn put_frame(frame: Option<&[u8; FRAME_LENGTH]>, out: &mut [u8]) -> usize
     requires { frame_field ≤ length out.old }
     ensures value { result ≡ length (tab ∷ shown (bytes_of frame.entry)) }

@@ -1,13 +1,14 @@
--- Laws of printed numbers: how many digits there are, and where a byte's two stand.
-use Rattle.std.proofs.Common.{◌≡◌, ℕ, zero, suc, ◌+◌, ◌*◌, ◌/◌, ◌%◌, ◌^◌, ◌<◌, ◌≤◌, List, [], ◌∷◌, ◌++◌, length, get_or, set, drop, refl, sym, ap, ap₂, ◌∙◌, arith, zero-add, length-append}
+-- Laws of printed numbers: how many digits there are; and of hex, put byte by byte.
+use Rattle.std.proofs.Common.{◌≡◌, ℕ, zero, suc, ◌+◌, ◌-◌, ◌*◌, ◌/◌, ◌^◌, ◌<◌, ◌≤◌, List, [], ◌∷◌, ◌++◌, length, get_or, take, drop, refl, sym, ap, ◌∙◌, arith, length-append, length-take}
 use native.Mathlib.Nat.{pow-suc}
 use borrow.Author.Tests.{lt-ltb, le-ltb}
 use Rattle.std.specs.Fmt as Fmt
 use Rattle.std.proofs.lemmas.Fmt.{decimal_digit, decimal_step, length-decimal-le, decimal_from_appends}
-use Rattle.std.proofs.Math.Seq.{paste}
-use Rattle.std.proofs.lemmas.List.Edits.{paste_more, paste_all}
-use Rattle.basis_lines.specs.Numbers.{last_digits, decimal, hex_glyph, hex_text}
+use Rattle.basis_lines.specs.Numbers.{last_digits, decimal, hex_text}
 use Rattle.basis_lines.specs.Answers.{written}
+use borrow.Rule.Slice.PartMut.{put_mid}
+use Rattle.std.proofs.lemmas.Grind.{common_steps}
+use Rattle.std.proofs.lemmas.List.{take_more}
 use Rattle.basis_lines.proofs.HexLaws.{hex_length}
 
 -- As many as the power of ten says.
@@ -42,42 +43,27 @@ decimal_written n start end old new h e f told =
     ∙ ap (λ (k : ℕ). Fmt.decimal n ++ drop k old) e
     ∙ ap (λ (t : List ℕ). written t old) (same_decimal n h)
 
--- The two digits of a byte.
-byte_digits : (bytes : List ℕ) (i : ℕ) → i < length bytes →
-    (hex_glyph (get_or bytes i 0 / 16) ≡ get_or (hex_text bytes) (2 * i) 0)
-    × (hex_glyph (get_or bytes i 0 % 16) ≡ get_or (hex_text bytes) (2 * i + 1) 0)
+-- The text of bytes behind others.
+hex_append : (xs ys : List ℕ) → hex_text (xs ++ ys) ≡ hex_text xs ++ hex_text ys
 unfolding hex_text
-byte_digits [] i h = absurd (omega arith)
-byte_digits (b ∷ bytes) zero h = (refl, refl)
-byte_digits (b ∷ bytes) (suc i) h =
-    let more = byte_digits bytes i (omega arith) in
-    let high : suc (suc (2 * i)) ≡ 2 * suc i = omega arith in
-    let low : suc (suc (2 * i + 1)) ≡ 2 * suc i + 1 = omega arith in
-    let text = hex_text (b ∷ bytes) in
-    (more.0 ∙ ap (λ (k : ℕ). get_or text k 0) high, more.1 ∙ ap (λ (k : ℕ). get_or text k 0) low)
+hex_append [] ys = refl
+hex_append (x ∷ xs) ys = rw (hex_append xs ys) refl
 
--- Both put behind those of the bytes before it.
-byte_more : (text out : List ℕ) (i : ℕ) → i < length text → i < length out →
-    set (paste out 0 text i) i (get_or text i 0) ≡ paste out 0 text (i + 1)
-byte_more text out i h k =
-    ap (λ (at : ℕ). set (paste out 0 text i) at (get_or text i 0)) (sym (zero-add i))
-    ∙ paste_more out 0 text i 0 (omega arith) h
+-- A text put behind another.
+pub part_written : (a b old : List ℕ) → length a + length b ≤ length old → let before = written a old in let room = length before - length a in
+    put_mid (length a) room before (written b (take room (drop (length a) before))) ≡ written (a ++ b) old
+part_written a b old fits = grind (arith, common_steps)
 
-pub byte_written : (bytes out : List ℕ) (i high low : ℕ) → high ≡ hex_glyph (get_or bytes i 0 / 16) →
-    low ≡ hex_glyph (get_or bytes i 0 % 16) → i < length bytes → 2 * length bytes ≤ length out →
-    set (set (paste out 0 (hex_text bytes) (2 * i)) (2 * i) high) (2 * i + 1) low ≡ paste out 0 (hex_text bytes) (2 * (i + 1))
-byte_written bytes out i high low e f h room =
-    let text = hex_text bytes in
-    let long = hex_length bytes in
-    let digits = byte_digits bytes i h in
-    let next : 2 * i + 1 + 1 ≡ 2 * (i + 1) = omega arith in
-    ap₂ (λ (a b : ℕ). set (set (paste out 0 text (2 * i)) (2 * i) a) (2 * i + 1) b) (e ∙ digits.0) (f ∙ digits.1)
-    ∙ ap (λ (l : List ℕ). set l (2 * i + 1) (get_or text (2 * i + 1) 0)) (byte_more text out (2 * i) (omega arith) (omega arith))
-    ∙ byte_more text out (2 * i + 1) (omega arith) (omega arith)
-    ∙ ap (paste out 0 text) next
+-- Put behind those of the bytes before it.
+pub byte_put : (bytes old mid part : List ℕ) (i len : ℕ) → i < length bytes → 2 * length bytes ≤ length old → len ≡ 2 * i →
+    mid ≡ written (hex_text (take i bytes)) old →
+    part ≡ written (hex_text (get_or bytes i 0 ∷ [])) (take (length mid - len) (drop len mid)) →
+    put_mid len (length mid - len) mid part ≡ written (hex_text (take (i + 1) bytes)) old
+byte_put bytes old mid part i len h room at before put =
+    let byte = get_or bytes i 0 ∷ [] in
+    let long = hex_length (take i bytes) in
+    let is : len ≡ length (hex_text (take i bytes)) = omega (arith, length-take i bytes) in
+    rw (put, before, is, take_more bytes i 0 h, hex_append (take i bytes) byte)
+    (part_written (hex_text (take i bytes)) (hex_text byte) old (omega (arith, hex_length byte, length-take i bytes)))
 
-pub bytes_written : (bytes out : List ℕ) (n : ℕ) → n ≡ length bytes →
-    paste out 0 (hex_text bytes) (2 * n) ≡ written (hex_text bytes) out
-bytes_written bytes out n e =
-    let long = hex_length bytes in
-    paste_all out 0 (hex_text bytes) (2 * n) (omega arith) ∙ ap (λ (k : ℕ). hex_text bytes ++ drop k out) (omega arith)
+pub ruleset hex_ends = (hex_length, byte_put)

@@ -1,2 +1,2 @@
--- What the functions' proofs cite.
-mod Digits
+-- What the functions' proofs cite, here and in the crates above.
+pub mod Digits

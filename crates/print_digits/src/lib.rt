@@ -1,12 +1,14 @@
-// Texts put at the start of an out buffer: bytes as they are, a number in decimal, and bytes in hex.
+// Texts put at the start of an out buffer: bytes as they are, a number in decimal, and bytes in hex. By hand: `write!` tells which bytes
+// it wrote in a `String` alone, which takes a heap.
 #![tactic(auto)]
 
-ghost use Rattle.std.specs.Prelude.{◌*◌, ◌≤◌, ◌<◌, ◌≡◌, length};
+ghost use Rattle.std.specs.Prelude.{◌*◌, ◌≤◌, ◌<◌, ◌≡◌, [], ◌∷◌, length};
 ghost use Rattle.std.specs.Fmt as Fmt;
 ghost use Rattle.basis_lines.specs.Numbers.{decimal, hex_glyph, hex_text};
 ghost use Rattle.basis_lines.specs.Answers.{written};
 
-// Puts a text, and answers how many bytes it has. So do the others named `put`.
+// Puts a text, and answers how many bytes it has. So do the others named `put`: each promises the count and the buffer by an equality
+// of its own, which is read without a word for both.
 pub fn put(text: &[u8], out: &mut [u8]) -> usize
     requires { length text.now ≤ length out.old }
     ensures value { result ≡ length text.now }
@@ -49,16 +51,30 @@ fn hex_glyph(digit: u8) -> u8
     }
 }
 
-// Bytes, two digits each.
+// A byte's two digits.
+#[tactic(auto, unfolding(basis_lines::specs::Numbers::hex_text))]
+fn put_byte(byte: u8, out: &mut [u8]) -> usize
+    requires { 2 ≤ length out.old }
+    ensures value { result ≡ 2 }
+    ensures out_after { out.new ≡ written (hex_text (byte ∷ [])) out.old }
+{
+    out[0] = hex_glyph(byte / 16);
+    out[1] = hex_glyph(byte % 16);
+    2
+}
+
+// Bytes, two digits each. The library's `encode_to_slice` takes twice the instructions: it looks each digit up. The length so far is
+// carried, since it is the answer.
+#[tactic(auto, using(crate::proofs::Digits::hex_ends), unfolding(basis_lines::specs::Numbers::hex_text))]
 pub fn put_hex(bytes: &[u8], out: &mut [u8]) -> usize
     requires { 2 * length bytes.now ≤ length out.old }
     ensures value { result ≡ length (hex_text bytes.now) }
     ensures twice { result ≡ 2 * length bytes.now }
     ensures out_after { out.new ≡ written (hex_text bytes.now) out.old }
 {
-    for (i, &byte) in bytes.iter().enumerate() {
-        out[2 * i] = hex_glyph(byte / 16);
-        out[2 * i + 1] = hex_glyph(byte % 16);
+    let mut len = 0;
+    for &byte in bytes {
+        len += put_byte(byte, &mut out[len..]);
     }
-    2 * bytes.len()
+    len
 }

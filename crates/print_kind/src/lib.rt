@@ -1,4 +1,4 @@
-// How an accepted answer begins: `ok` and the kind's word.
+// How an accepted answer begins: `ok` and the kind's word. By hand, as all texts are (crate print_digits).
 #![tactic(auto)]
 
 ghost use Rattle.std.specs.Prelude.{◌≤◌, ◌≡◌, ◌∷◌, ◌++◌, length};

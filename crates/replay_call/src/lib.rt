@@ -1,4 +1,4 @@
-// A call made, and the text of its answer.
+// A call made, and the text of its answer, for which there is to be room (crate print_answer).
 #![tactic(auto)]
 
 ghost use Rattle.std.specs.Prelude.{◌≤◌, ◌≡◌, length, Some};
@@ -42,11 +42,10 @@ pub fn perform(judged: &Judged, call: Call, bytes: &[u8], out: &mut [u8]) -> Ans
     ensures { Gives (answer_to judged.now.state (Some (made call bytes.now))) result.state result.written out.old out.new }
 {
     let mut frame = [0; FRAME_LENGTH];
-    let Performed {
-        answer,
-        state,
-        sent,
-    } = engine_calls::perform(judged, call, bytes, &mut frame);
-    let written = put_answer(answer, sent.then_some(&frame), out);
-    AnsweredLine { state, written }
+    let Performed { called, sent } = engine_calls::perform(judged, call, bytes, &mut frame);
+    let written = put_answer(called.answer, sent.then_some(&frame), out);
+    AnsweredLine {
+        state: called.state,
+        written,
+    }
 }

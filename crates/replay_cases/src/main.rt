@@ -1,4 +1,5 @@
 // The replay again, on the cases of tests/cases.
+// A program of its own beside `replay`, for an input and an output of its own.
 #![tactic(auto)]
 
 fn main(rt: HostRuntime) {

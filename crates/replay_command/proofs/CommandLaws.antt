@@ -36,16 +36,18 @@ headed_answer s None = refl
 headed_answer s (Some i) = headed_call s i.bytes i.lent i.call
 
 -- What was read of a line is answered as the line is.
-pub line_refused : (s : Interface) (parsed : Option Parsed) (head line : List ℕ) → Makes parsed head (call_of line) → parsed ≡ None
-    → malformed s ≡ line_answer s line
+pub line_answered : (s : Interface) (asks : Option Parsed) (head line : List ℕ) (parsed : Option Parsed) → Makes parsed head (call_of line)
+    → parsed ≡ asks → answer_to s (made_of asks head) ≡ line_answer s line
 unfolding line_answer
-line_refused s parsed head line made e =
+line_answered s asks head line parsed made e =
     sym (ap (λ p. answer_to s (made_of p head)) e) ∙ ap (answer_to s) made.makes ∙ headed_answer s (call_of line)
 
-pub line_called : (s : Interface) (p : Parsed) (parsed : Option Parsed) (head line : List ℕ) → Makes parsed head (call_of line) → parsed ≡ Some p
+pub line_refused : (s : Interface) (head line : List ℕ) (parsed : Option Parsed) → Makes parsed head (call_of line) → parsed ≡ None
+    → malformed s ≡ line_answer s line
+line_refused s = line_answered s None
+
+pub line_called : (s : Interface) (p : Parsed) (head line : List ℕ) (parsed : Option Parsed) → Makes parsed head (call_of line) → parsed ≡ Some p
     → answer_to s (Some (made p.call (take p.count head))) ≡ line_answer s line
-unfolding line_answer
-line_called s p parsed head line made e =
-    sym (ap (λ p. answer_to s (made_of p head)) e) ∙ ap (answer_to s) made.makes ∙ headed_answer s (call_of line)
+line_called s p = line_answered s (Some p)
 
 pub ruleset line_ends = (line_refused, line_called)

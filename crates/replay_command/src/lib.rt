@@ -1,4 +1,5 @@
-// A line's command carried out, on a state of which it is known whether it is sound.
+// A line's command carried out, on a state of which it is known whether it is sound. For the answer there is to be room (crate
+// print_answer).
 #![tactic(auto)]
 
 ghost use Rattle.std.specs.Prelude.{◌≤◌, ◌≡◌, length};

@@ -1,4 +1,5 @@
 -- What a turn of the loop leaves: the stream, how many bytes are held, whether it waits and goes on, and the input buffer.
+-- By its fields: `Replay` has a ghost field, so it imports what its file does, this one too, and cannot be named here.
 use Rattle.std.specs.Prelude.{ℕ, ◌≤◌, ◌≡◌, Bool, true, false, List, length, take, Result, Ok, Err}
 use Rattle.basis_lines.specs.declared.Stream.{Stream}
 use Rattle.basis_lines.specs.Stream.{work, kept, kept_length}

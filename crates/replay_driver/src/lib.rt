@@ -44,7 +44,7 @@ fn write(rt: &impl Print, out: &[u8], count: usize) -> Result<(), Stopped> {
 }
 
 // Where the replay stands: `held` bytes at the start of the input buffer are not used up, and are to be worked on again unless it
-// is waiting for more.
+// is waiting for more. An array with a length beside it: there is no heap.
 #[derive(Drop)]
 struct Replay {
     stream: Stream,
@@ -122,7 +122,7 @@ impl Replay {
         Ok(true)
     }
 
-    // One turn: a read where it waits for more, else the lines at hand. Answers whether the replay goes on.
+    // One turn: a read where it waits for more, as `work` says, else the lines at hand. Answers whether the replay goes on.
     fn turn(
         &mut self,
         rt: &impl Print,

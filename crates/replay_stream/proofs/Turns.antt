@@ -5,12 +5,11 @@ use mathlib.Core.Bool.{Bool, true, false, cond, ◌||◌}
 use mathlib.Core.List.{List, [], ◌++◌, append-nil}
 use borrow.Author.Tests.{lt-ltb, le-ltb}
 use borrow.Rule.Slice.PartMut.{put_mid}
-use native.Mathlib.Numerals.{add-one}
+use native.Mathlib.Nat.{sub-zero}
 use native.Mathlib.Omega.{arith}
 use lib.Dec.{ltb}
 use lib.ListN.{length, take, drop, length-append, length-drop}
 use lib.Seq.{drop-drop}
-use Rattle.std.proofs.lemmas.Grind.{common_steps}
 use Rattle.basis.specs.Answers.{refusal_number}
 use Rattle.basis.specs.declared.Refusal.TheVariants.{LineMalformed}
 use Rattle.basis.specs.declared.Interface.{Interface}
@@ -22,27 +21,39 @@ use Rattle.basis_lines.specs.Forms.{longest_line}
 use Rattle.basis_lines.specs.Stream.{Work, ended_answer, at_line_start, wait, afterwards, work}
 use Rattle.basis_lines.proofs.AnswerLaws.{refused_at_most, longest_answer_lem, line_stays_sound}
 use Rattle.basis_lines.proofs.FieldLaws.{first_length}
-use Rattle.basis_lines.proofs.StreamLaws.{afterwards_twice, line_done, work_line, work_wait}
+use Rattle.basis_lines.proofs.StreamLaws.{afterwards_nothing, afterwards_twice, line_done, work_line, work_wait}
+use Rattle.print_digits.proofs.Digits.{part_written}
 use Rattle.replay_call.specs.AnswerText.{Gives}
 
 -- A text written at the start of a buffer, which stays as long.
 length_written : (text old : List ℕ) → length text ≤ length old → length (written text old) ≡ length old
 length_written text old fits = omega (arith, length-append text (drop (length text) old), length-drop (length text) old)
 
--- A text more, in the rest of the buffer.
-part_written : (a b old : List ℕ) → length a + length b ≤ length old → let before = written a old in let room = length before - length a in
-    put_mid (length a) room before (written b (take room (drop (length a) before))) ≡ written (a ++ b) old
-part_written a b old fits = grind (arith, common_steps)
-
--- What holds after some lines: how far the loop is in the input, the text that it wrote into the out buffer, and that the whole
--- work is that text, then the work on the rest.
-pub record Turns (st₀ : Stream) (input out₀ : List ℕ) (st : Stream) (used count : ℕ) (out : List ℕ) : Type 0 where
+-- What holds after some lines: the rest of the input that the loop is at, the text that it wrote into the out buffer, and that the
+-- whole work is that text, then the work on the rest.
+pub record Turns (st₀ : Stream) (input out₀ : List ℕ) (st : Stream) (rest : List ℕ) (count : ℕ) (out : List ℕ) : Type 0 where
+  pub used : ℕ
   pub within : used ≤ length input
+  pub rest_is : rest ≡ drop used input
   pub room : count ≤ length out₀
   pub text : List ℕ
   pub counted : count ≡ length text
   pub wrote : out ≡ written text out₀
-  pub so_far : work st₀ input (length out₀) ≡ afterwards used text (work st (drop used input) (length out₀ - count))
+  pub so_far : work st₀ input (length out₀) ≡ afterwards used text (work st rest (length out₀ - count))
+
+-- Before the first line.
+pub no_turns : (st₀ : Stream) (input out₀ : List ℕ) → Turns st₀ input out₀ st₀ input 0 out₀
+no_turns st₀ input out₀ =
+    record {
+      used = 0;
+      within = omega arith;
+      rest_is = refl;
+      room = omega arith;
+      text = [];
+      counted = refl;
+      wrote = refl;
+      so_far = rw (sub-zero (length out₀)) (sym (afterwards_nothing (work st₀ input (length out₀))));
+    }
 
 -- A line that byte 10 ended comes next.
 line_next : (st : Stream) (line input : List ℕ) (room : ℕ)
@@ -95,9 +106,9 @@ wait_by_test st begun n n_is =
     cases false true = refl
     cases false false = refl
 
-used_by_test : (too_long : Bool) (at n all : ℕ) → all ≡ at + n → cond too_long all at ≡ at + cond too_long n 0
-used_by_test true at n all e = e
-used_by_test false at n all e = omega arith
+used_by_test : (too_long : Bool) (used n all : ℕ) → used + n ≡ all → all - cond too_long 0 n ≡ used + cond too_long n 0
+used_by_test true used n all e = omega arith
+used_by_test false used n all e = omega arith
 
 -- What the loop leaves: the parts of a work, and its text written.
 abbrev pub Left : Work → Stream → ℕ → ℕ → Bool → List ℕ → List ℕ → Type 0
@@ -110,17 +121,21 @@ Left w stream used count waiting out₀ out =
       out_after : out ≡ written w.text out₀;
     }
 
-module _ {st₀ : Stream} {input out₀ : List ℕ} {st : Stream} {at count : ℕ} {out : List ℕ} (t : Turns st₀ input out₀ st at count out) where
+module _ {st₀ st : Stream} {input rest out₀ out : List ℕ} {count : ℕ} (t : Turns st₀ input out₀ st rest count out) where
   -- The out buffer is as long as before.
   pub sized : length out ≡ length out₀
   sized = ap length t.wrote ∙ length_written t.text out₀ (omega (arith, t.room, t.counted))
 
+  -- What is used and what is left are all of the input.
+  pub all_of_it : t.used + length rest ≡ length input
+  all_of_it = omega (arith, t.within, ap length t.rest_is, length-drop t.used input)
+
   left : {stream : Stream} {used more : ℕ} {waiting : Bool}
-      → work st (drop at input) (length out₀ - count) ≡ record { stream = stream; used = more; text = []; waiting = waiting }
-      → used ≡ at + more
+      → work st rest (length out₀ - count) ≡ record { stream = stream; used = more; text = []; waiting = waiting }
+      → used ≡ t.used + more
       → Left (work st₀ input (length out₀)) stream used count waiting out₀ out
   left e used_is =
-      let whole = t.so_far ∙ ap (afterwards at t.text) e in
+      let whole = t.so_far ∙ ap (afterwards t.used t.text) e in
       let text_is : (work st₀ input (length out₀)).text ≡ t.text = ap (λ w. w.text) whole ∙ append-nil t.text in
       record {
         stream_value = sym (ap (λ w. w.stream) whole);
@@ -131,41 +146,53 @@ module _ {st₀ : Stream} {input out₀ : List ℕ} {st : Stream} {at count : �
       }
 
   -- The line that is next.
-  module _ {line : List ℕ} (line_is : line ≡ first_part newline (drop at input)) where
-    ended_line : (length line ≡ length input - at → ⊥) → length line < length (drop at input)
-    ended_line ended = omega (arith, ended, length-drop at input, ap length line_is, first_length newline (drop at input))
+  module _ {line : List ℕ} (line_is : line ≡ first_part newline rest) where
+    pub ended_line : (length line ≡ length rest → ⊥) → length line < length rest
+    ended_line ended = omega (arith, ended, ap length line_is, first_length newline rest)
 
     -- It is answered, with what it came to.
-    pub turn : {s : Interface} {n : ℕ} {part : List ℕ}
-        → (length line ≡ length input - at → ⊥)
+    pub turn : {s : Interface} {n : ℕ} {part next : List ℕ}
+        → (length line ≡ length rest → ⊥)
         → longest_answer ≤ length out - count
         → Gives (ended_answer st line) s n (take (length out - count) (drop count out)) part
-        → Turns st₀ input out₀ (at_line_start s) (at + (length line + 1)) (count + n) (put_mid count (length out - count) out part)
-    turn ended room gives =
+        → next ≡ drop (suc (length line)) rest
+        → Turns st₀ input out₀ (at_line_start s) next (count + n) (put_mid count (length out - count) out part)
+    turn ended room gives next_is =
         let answer : List ℕ = (ended_answer st line).text in
-        let rest : List ℕ → ℕ → Work = work (at_line_start (ended_answer st line).state) in
-        let ends : length line < length (drop at input) = ended_line ended in
+        let later : List ℕ → ℕ → Work = work (at_line_start (ended_answer st line).state) in
+        let ends : length line < length rest = ended_line ended in
         let fits : length t.text + length answer ≤ length out₀ =
         omega (arith, room, sized, t.room, t.counted, ended_at_most st line) in
         let room_is : length out₀ - (count + length answer) ≡ length out₀ - count - length answer = omega arith in
-        rw (gives.state_after, gives.counted)
+        rw (gives.state_after, gives.counted, next_is)
         (record {
-          within = omega (arith, ends, length-drop at input);
+          used = t.used + suc (length line);
+          within = omega (arith, ends, all_of_it);
+          rest_is = ap (drop (suc (length line))) t.rest_is ∙ drop-drop (suc (length line)) t.used input;
           room = omega (arith, fits, t.counted);
           text = t.text ++ answer;
           counted = omega (arith, t.counted, length-append t.text answer);
           wrote = rw (gives.bytes, t.wrote, t.counted) (part_written t.text answer out₀ fits);
           so_far =
               t.so_far
-              ∙ ap (afterwards at t.text)
-              (line_next st line (drop at input) (length out₀ - count) line_is ends
+              ∙ ap (afterwards t.used t.text)
+              (line_next st line rest (length out₀ - count) line_is ends
               ∙ rw (le-ltb (length out₀ - count) longest_answer (omega (arith, room, sized))))
-              ∙ afterwards_twice at (suc (length line)) t.text answer (rest (drop (suc (length line)) (drop at input)) (length out₀ - count - length answer))
-              ∙ rw (drop-drop (suc (length line)) at input, add-one (length line), room_is);
+              ∙ afterwards_twice t.used (suc (length line)) t.text answer
+              (later (drop (suc (length line)) rest) (length out₀ - count - length answer))
+              ∙ rw room_is;
         })
 
+    -- Less is left.
+    pub shorter : {next : List ℕ} → (length line ≡ length rest → ⊥) → next ≡ drop (suc (length line)) rest → length next < length rest
+    shorter ended next_is = omega (arith, ended_line ended, ap length next_is, length-drop (suc (length line)) rest)
+
     -- A state that is sound stays so.
-    pub carried : {s : Interface} {sound : Bool} → s ≡ (ended_answer st line).state → sound ≡ is_sound st.state → sound ≡ true → is_sound s ≡ true
+    pub carried : {s : Interface} {sound : Bool}
+        → s ≡ (ended_answer st line).state
+        → sound ≡ is_sound st.state
+        → sound ≡ true
+        → is_sound s ≡ true
     carried s_is told is = ap is_sound s_is ∙ by st.skipping
       where
         by : (skipping : Bool) → is_sound (ended_answer (record { state = st.state; skipping = skipping }) line).state ≡ true
@@ -173,24 +200,22 @@ module _ {st₀ : Stream} {input out₀ : List ℕ} {st : Stream} {at count : �
         by false = line_stays_sound st.state line (sym told ∙ is)
 
     -- The out buffer is too short for its answer.
-    pub stops : (length line ≡ length input - at → ⊥) → length out - count < longest_answer
-        → Left (work st₀ input (length out₀)) st at count false out₀ out
+    pub stops : (length line ≡ length rest → ⊥) → length out - count < longest_answer
+        → Left (work st₀ input (length out₀)) st (length input - length rest) count false out₀ out
     stops ended short =
         left {more = 0}
-        (line_next st line (drop at input) (length out₀ - count) line_is (ended_line ended)
+        (line_next st line rest (length out₀ - count) line_is (ended_line ended)
         ∙ rw (lt-ltb (length out₀ - count) longest_answer (omega (arith, short, sized))))
-        (omega arith)
+        (omega (arith, all_of_it))
 
     -- Byte 10 does not end it yet.
-    pub waits : {skipping : Bool} {used : ℕ}
-        → length line ≡ length input - at
+    pub waits : {skipping : Bool} {next : ℕ}
+        → length line ≡ length rest
         → skipping ≡ is_too_long st (length line)
-        → used ≡ cond skipping (length input) at
-        → Left (work st₀ input (length out₀)) (record { state = st.state; skipping = skipping }) used count true out₀ out
-    waits all skipping_is used_is =
-        let whole : length (drop at input) ≡ length line = length-drop at input ∙ sym all in
-        rw skipping_is
+        → next ≡ cond skipping 0 (length rest)
+        → Left (work st₀ input (length out₀)) (record { state = st.state; skipping = skipping }) (length input - next) count true out₀ out
+    waits all skipping_is next_is =
+        rw (next_is, skipping_is, all)
         (left
-        (work_wait st (drop at input) (length out₀ - count) (sym (ap length line_is) ∙ sym whole)
-        ∙ wait_by_test st (drop at input) (length line) whole)
-        (used_is ∙ ap (λ t. cond t (length input) at) skipping_is ∙ used_by_test (is_too_long st (length line)) at (length line) (length input) (omega (arith, t.within))))
+        (work_wait st rest (length out₀ - count) (sym (ap length line_is) ∙ all) ∙ wait_by_test st rest (length rest) refl)
+        (used_by_test (is_too_long st (length rest)) t.used (length rest) (length input) all_of_it))

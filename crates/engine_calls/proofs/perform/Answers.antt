@@ -21,6 +21,6 @@ returns c =
       | in-Drop w ↦ drop_decided _ _ _ _ _ _ w.decided-is _ _ w.in-Drop.is w.drop-decided.ensures
     ] in
     record {
-      promised = is_performed _ _ _ _ _ says _ _ c.carry_out-answer.ensures;
+      promised = is_performed _ _ _ _ _ says _ _ c.carry_out.ensures;
       sent_value = c.is_sent-sent.ensures ∙ is_told _ _ _ _ _ says;
     }

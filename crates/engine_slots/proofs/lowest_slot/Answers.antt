@@ -10,6 +10,6 @@ pub returns : goal.returns
 returns g c p h =
     let same : c.map.result ≡ c.position.result = search rules in
     same
-    ∙ position_from_yields_List p _ _ _ c.position.ensures.ran (YieldsList-from_slice c.args.records.now cc) (λ x b q k. (search rules, h _ _ (search rules)))
-    ∙ position_from-zero p c.args.records.now
-    ∙ sym (lowest_in_list p 0 c.args.records.now)
+    ∙ position_from_yields_List p _ _ _ c.position.ensures.ran (YieldsList-from_slice _ cc) (λ x b q k. (search rules, h _ _ (search rules)))
+    ∙ position_from-zero p _
+    ∙ sym (lowest_in_list p 0 _)

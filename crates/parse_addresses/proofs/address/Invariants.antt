@@ -1,10 +1,10 @@
--- `parse_addresses::address`: so many octets are read and make the value, and `rest` is what is left.
-use Prim.Native.Nat.{◌^◌, ◌<◌}
+-- `parse_addresses::address`: the octets before the index are read, and `rest` is what is left.
 use mathlib.Core.Path.{◌≡◌}
+use lib.ListN.{take}
 use Rattle.basis_lines.specs.Fields.{dot, parts}
 use Rattle.basis_lines.specs.Numbers.{address}
 use Rattle.parse_addresses.specs.Dotted.{address_after}
 use Rattle.parse_addresses.proofs.address.Given as goal
 
-abbrev pub invariant-loop-count : goal.invariant-loop-count
-invariant-loop-count l = record { small : l.value < 256 ^ l._count; left : address l.text ≡ address_after l._count l.value (parts dot l.rest) }
+abbrev pub invariant-loop-octet : goal.invariant-loop-octet
+invariant-loop-octet l = address l.text ≡ address_after (take l.octet-index l.octet-items) (parts dot l.rest)

@@ -12,4 +12,5 @@ overflow_add-value c =
     record { fits = omega (arith, room _ _ _ _ c.min-most.ensures c.loop-count.invariant c.loop-count-test.true) }
 
 pub loop-count-preserved : goal.loop-count-preserved
-loop-count-preserved c = goes_on_19 _ _ _ _ c.min-most.ensures c.loop-count.invariant c.loop-count-test.true (search rules)
+loop-count-preserved c =
+    goes_on_19 _ _ _ _ c.min-most.ensures c.loop-count.invariant c.loop-count-test.true (search rules) _ c.from.ensures

@@ -1,8 +1,8 @@
--- `print_digits::put_hex`: as many bytes of the text as have been put.
-use Rattle.std.proofs.Common.{◌*◌, ◌≡◌}
-use Rattle.std.proofs.Math.Seq.{paste}
+-- `print_digits::put_hex`: the text of the bytes so far has been put.
+use Rattle.std.proofs.Common.{◌≡◌, ◌*◌, take}
 use Rattle.basis_lines.specs.Numbers.{hex_text}
+use Rattle.basis_lines.specs.Answers.{written}
 use Rattle.print_digits.proofs.put_hex.Given as goal
 
-abbrev pub invariant-loop-i : goal.invariant-loop-i
-invariant-loop-i l = l.out ≡ paste l.initial.out 0 (hex_text l.bytes) (2 * l.i)
+abbrev pub invariant-loop-byte : goal.invariant-loop-byte
+invariant-loop-byte l = (l.len ≡ 2 * l.byte-index) × (l.out ≡ written (hex_text (take l.byte-index l.bytes)) l.fn.out)

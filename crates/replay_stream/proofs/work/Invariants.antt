@@ -1,5 +1,4 @@
 -- `replay_stream::work`: what holds after some lines, and that the state is sound where that is known.
-use Prim.Native.Nat.{◌-◌}
 use mathlib.Core.Path.{◌≡◌}
 use mathlib.Core.Bool.{true}
 use lib.ListN.{length}
@@ -10,9 +9,9 @@ use Rattle.replay_stream.proofs.work.Given as goal
 abbrev pub invariant-lines : goal.invariant-lines
 invariant-lines l =
     record {
-      turns : Turns l.fn.stream l.input l.initial.out (record { state = l.state; skipping = l.skipping }) l.used l.written l.out;
+      turns : Turns l.fn.stream l.input l.initial.out (record { state = l.state; skipping = l.skipping }) l.rest l.written l.out;
       known : l.sound ≡ true → is_sound l.state ≡ true;
     }
 
 abbrev pub decreases-lines : goal.decreases-lines
-decreases-lines l = length l.input - l.used
+decreases-lines l = length l.rest

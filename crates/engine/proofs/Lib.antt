@@ -1,2 +1,0 @@
--- What a proof of src/ cites.
-mod EngineLaws

@@ -1,7 +1,0 @@
--- `parse_hex::read_short`: the loop has kept the first `i` bytes.
-use Rattle.std.proofs.Common.{◌≡◌, take}
-use Rattle.parse_hex.specs.HexValues.{pairs}
-use Rattle.parse_hex.proofs.read_short.Given as goal
-
-abbrev pub invariant-loop-i : goal.invariant-loop-i
-invariant-loop-i l = take l.i l.head ≡ take l.i (pairs l.text)
