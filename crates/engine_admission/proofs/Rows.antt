@@ -1,11 +1,10 @@
 -- The rows that a call begins with, before its others: they refuse it, or leave it to those.
-use Prim.Native.Nat.{ℕ, ◌≤◌, ◌<◌}
+use Prim.Native.Nat.{ℕ}
 use mathlib.Core.Path.{◌≡◌, refl, sym, ap, ◌∙◌}
 use mathlib.Core.Bool.{Bool, true, false, not}
 use Rattle.std.specs.Prelude.{Option, None, Some}
 use Rattle.std.specs.Option.{option_or}
 use lib.Dec.{ltb}
-use borrow.Author.Tests.{lt-ltb, le-ltb}
 use Rattle.basis.specs.Times.{last_time}
 use Rattle.basis.specs.Answers.{◌if◌else◌}
 use Rattle.basis.specs.Frame.{frame_length}
@@ -13,6 +12,12 @@ use Rattle.basis.specs.declared.Time.{Time}
 use Rattle.basis.specs.declared.Interface.{Interface}
 use Rattle.basis_engine.specs.Interface.{is_sound}
 use Rattle.basis_engine.specs.Refusals.{state_and_time, state_time_and_room}
+use Rattle.engine_admission.specs.Rows.{first_rows}
+
+-- What the first rows give of a state is what the table says of it.
+pub first_rows_lem : (s : Interface) (sound : Bool) → sound ≡ is_sound s → (time : Time) → first_rows sound s.latest time ≡ state_and_time s time None
+unfolding state_and_time
+first_rows_lem s sound e time = rw e
 
 row_first : (row : Bool) (n : ℕ) (more less others : Option ℕ) → more ≡ option_or less others →
     (n if row else more) ≡ option_or (n if row else less) others
@@ -32,18 +37,22 @@ module _ (s : Interface) (time : Time) (others : Option ℕ) where
   pub rows_leave : state_and_time s time None ≡ None → state_and_time s time others ≡ others
   rows_leave e = rows_first ∙ ap (λ (o : Option ℕ). option_or o others) e
 
--- Row 5 behind them.
-module _ (s : Interface) (time : Time) (room : ℕ) where
-  pub room_bars : (n : ℕ) → Some n ≡ state_and_time s time None → Some n ≡ state_time_and_room s time room None
-  room_bars n e = sym (rows_bar s time (5 if ltb room frame_length else None) n (sym e))
+-- Row 5 behind them, of a state that is known to be sound or not.
+module _ (s : Interface) (sound : Bool) (known : sound ≡ is_sound s) (time : Time) (room : ℕ) where
+  abbrev with_row_5 : Option ℕ → Option ℕ
+  with_row_5 first = option_or first (5 if ltb room frame_length else None)
 
-  pub room_refuses : None ≡ state_and_time s time None → room < frame_length → Some 5 ≡ state_time_and_room s time room None
-  room_refuses e h = sym (rows_leave s time (5 if ltb room frame_length else None) (sym e) ∙ rw (lt-ltb room frame_length h))
+  pub room_told : with_row_5 (first_rows sound s.latest time) ≡ state_time_and_room s time room None
+  room_told = ap with_row_5 (first_rows_lem s sound known time) ∙ sym (rows_first s time (5 if ltb room frame_length else None))
 
-  pub room_passes : None ≡ state_and_time s time None → frame_length ≤ room → None ≡ state_time_and_room s time room None
-  room_passes e h = sym (rows_leave s time (5 if ltb room frame_length else None) (sym e) ∙ rw (le-ltb room frame_length h))
+  pub room_admits : None ≡ with_row_5 (first_rows sound s.latest time) → state_and_time s time None ≡ None
+  room_admits e = nothing_first (state_and_time s time None) (sym (e ∙ ap with_row_5 (first_rows_lem s sound known time)))
+    where
+      nothing_first : (first : Option ℕ) → with_row_5 first ≡ None → first ≡ None
+      nothing_first None e = refl
+      nothing_first (Some n) e = e
 
-pub ruleset room_ends = (room_bars, room_refuses, room_passes)
+pub ruleset room_ends = (room_told, room_admits)
 
 -- All four, before a call's others.
 module _ (s : Interface) (time : Time) (room : ℕ) (others : Option ℕ) where
