@@ -126,8 +126,8 @@ begins word line = pointwise nat_eq (take (length (with_tab word)) line) (with_t
 
 module _ (word line : List ℕ) where
   -- A line that begins with them is the word, a tab and what is behind it.
-  begun : begins word line ≡ true → (rest : List ℕ) → rest ≡ drop (length (with_tab word)) line → line ≡ word ++ (tab ∷ rest)
-  begun e rest behind =
+  begun_parts : begins word line ≡ true → (rest : List ℕ) → rest ≡ drop (length (with_tab word)) line → line ≡ word ++ (tab ∷ rest)
+  begun_parts e rest behind =
       sym (take-append-drop (length (with_tab word)) line)
       ∙ ap₂ (λ front l. front ++ l) ((bytes_eq-Decides (take (length (with_tab word)) line) (with_tab word)).0 e) (sym behind)
       ∙ append_assoc word (tab ∷ []) rest
@@ -156,7 +156,7 @@ module _ (word line : List ℕ) where
 -- The first word.
 pub timed_word : (form : Form) (line : List ℕ) → begins (row_of form).word line ≡ true
     → (rest : List ℕ) → rest ≡ drop (length (with_tab (row_of form).word)) line → call_in (parts tab line) ≡ behind_word form rest
-timed_word form line e rest behind = ap (λ l. call_in (parts tab l)) (begun (row_of form).word line e rest behind) ∙ word_line form rest
+timed_word form line e rest behind = ap (λ l. call_in (parts tab l)) (begun_parts (row_of form).word line e rest behind) ∙ word_line form rest
 
 abbrev Untimed : List (List ℕ) → Type 0
 Untimed fields = call_in fields ≡ untimed_call fields
@@ -202,7 +202,7 @@ module _ (line head : List ℕ) (short : length line ≤ longest_line) where
     fresh_line e rest behind call is r plain =
         plain_makes call r head (call_of line) plain
         (is
-        ∙ sym (ap (λ l. untimed_call (parts tab l)) (begun fresh_word line e rest behind) ∙ fresh_form rest)
+        ∙ sym (ap (λ l. untimed_call (parts tab l)) (begun_parts fresh_word line e rest behind) ∙ fresh_form rest)
         ∙ sym told
         ∙ whole_line)
 

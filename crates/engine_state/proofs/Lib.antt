@@ -1,0 +1,2 @@
+-- What a new interface is made of.
+pub mod StateLaws
