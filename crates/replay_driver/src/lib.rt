@@ -83,10 +83,13 @@ impl Replay {
         write(rt, out, worked.written)
     }
 
-    // The input ended.
-    fn end(&self, rt: &impl Print, out: &mut [u8]) -> Result<(), Stopped> {
+    // The input ended: the replay goes on no more.
+    fn end(&self, rt: &impl Print, out: &mut [u8]) -> Result<bool, Stopped>
+        ensures { goes_on result ≡ false }
+    {
         let written = replay_stream::finish(self.stream, self.held(), out);
-        write(rt, out, written.unwrap_or(0))
+        write(rt, out, written.unwrap_or(0))?;
+        Ok(false)
     }
 
     // Reads behind what is held, and answers how many bytes. There is always room, since no more than 4,096 bytes are held: the test
@@ -115,8 +118,7 @@ impl Replay {
     {
         let count = self.read(source).map_err(Stopped::Reading)?;
         if count == 0 {
-            self.end(rt, out)?;
-            return Ok(false);
+            return self.end(rt, out);
         }
         self.waiting = false;
         Ok(true)
