@@ -1,0 +1,2 @@
+-- The room that a kind takes.
+pub mod KindLaws
