@@ -8,7 +8,8 @@
 // error alone.
 #![tactic(auto)]
 
-ghost use Rattle.std.specs.Prelude.{◌≤◌, ◌≡◌, true, false, length, take, Result, Err};
+ghost use Rattle.std.specs.Prelude.{◌≤◌, ◌<◌, ◌≡◌, true, false, length, take, Result, Err};
+ghost use Rattle.std.specs.Result.{IsOkAnd};
 ghost use Rattle.basis_engine.specs.Interface.{zeros};
 ghost use Rattle.basis_lines.specs.Stream.{at_line_start};
 ghost use Rattle.replay_driver.specs.Turns.{goes_on, Waited, Worked};
@@ -116,7 +117,22 @@ impl Replay {
     ) -> Result<bool, Stopped>
         ensures { Waited self.old.stream self.old.held self.old.input self.new.stream self.new.held self.new.waiting (goes_on result) self.new.input }
     {
-        let count = self.read(source).map_err(Stopped::Reading)?;
+        let got = self.read(source);
+        self.go_on(got, rt, out)
+    }
+
+    // What a read came to: more to work on, or the end. The replay goes on only where it brought something.
+    fn go_on(
+        &mut self,
+        got: io::Result<usize>,
+        rt: &impl Print,
+        out: &mut [u8],
+    ) -> Result<bool, Stopped>
+        ensures waited { Waited self.old.stream self.old.held self.old.input self.new.stream self.new.held self.new.waiting (goes_on result) self.new.input }
+        ensures input_stays { self.new.input ≡ self.old.input }
+        ensures brought { goes_on result ≡ true → IsOkAnd got (λ count. 0 < count) }
+    {
+        let count = got.map_err(Stopped::Reading)?;
         if count == 0 {
             return self.end(rt, out);
         }
