@@ -1,6 +1,6 @@
 -- What a turn of the loop leaves: the stream, how many bytes are held, whether it waits and goes on, and the input buffer.
 -- By its fields: `Replay` has a ghost field, so it imports what its file does, this one too, and cannot be named here.
-use Rattle.std.specs.Prelude.{ℕ, ◌≤◌, ◌≡◌, Bool, true, false, List, length, take, Result, Ok, Err}
+use Rattle.std.specs.Prelude.{ℕ, ◌≤◌, ◌≡◌, Bool, true, false, List, length, take, Result, Ok, Err, nat_eq}
 use Rattle.basis_lines.specs.declared.Stream.{Stream}
 use Rattle.basis_lines.specs.Stream.{work, kept, kept_length}
 
@@ -8,6 +8,11 @@ use Rattle.basis_lines.specs.Stream.{work, kept, kept_length}
 abbrev pub goes_on : {E : Type 0} → Result Bool E → Bool
 goes_on (Ok going) = going
 goes_on (Err why) = false
+
+-- Whether the replay still waits after a read: one that brings nothing, or fails, leaves nothing to work on.
+abbrev pub still_waits : {E : Type 0} → Result ℕ E → Bool
+still_waits (Ok count) = nat_eq count 0
+still_waits (Err why) = true
 
 -- A turn that waits for more: the stream and what is held stay. If it goes on, it has at least as much, within the buffer, and no
 -- longer waits.

@@ -8,11 +8,10 @@
 // error alone.
 #![tactic(auto)]
 
-ghost use Rattle.std.specs.Prelude.{◌≤◌, ◌<◌, ◌≡◌, true, false, length, take, Result, Err};
-ghost use Rattle.std.specs.Result.{IsOkAnd};
+ghost use Rattle.std.specs.Prelude.{◌≤◌, ◌≡◌, true, false, length, take, Result, Err};
 ghost use Rattle.basis_engine.specs.Interface.{zeros};
 ghost use Rattle.basis_lines.specs.Stream.{at_line_start};
-ghost use Rattle.replay_driver.specs.Turns.{goes_on, Waited, Worked};
+ghost use Rattle.replay_driver.specs.Turns.{goes_on, still_waits, Waited, Worked};
 
 use basis_lines::Stream;
 use std::fmt;
@@ -93,18 +92,21 @@ impl Replay {
         Ok(false)
     }
 
-    // Reads behind what is held, and answers how many bytes. There is always room, since no more than 4,096 bytes are held: the test
-    // keeps a read into no room from being taken for the end.
+    // Reads behind what is held, and answers how many bytes. Only where there are some it waits no more. There is always room, since no
+    // more than 4,096 bytes are held: the test keeps a read into no room from being taken for the end.
     fn read(&mut self, source: &mut impl Read) -> io::Result<usize>
         ensures stream_stays { self.new.stream ≡ self.old.stream }
         ensures held_le_held { self.old.held ≤ self.new.held }
         ensures input_unchanged { take self.old.held self.new.input ≡ take self.old.held self.old.input }
+        ensures waits { self.new.waiting ≡ still_waits result }
     {
+        self.waiting = true;
         if self.held == INPUT_LENGTH {
             return Err(Error::other("the buffer has no room"));
         }
         let count = source.read(&mut self.input[self.held..])?;
         self.held += count;
+        self.waiting = count == 0;
         Ok(count)
     }
 
@@ -117,26 +119,10 @@ impl Replay {
     ) -> Result<bool, Stopped>
         ensures { Waited self.old.stream self.old.held self.old.input self.new.stream self.new.held self.new.waiting (goes_on result) self.new.input }
     {
-        let got = self.read(source);
-        self.go_on(got, rt, out)
-    }
-
-    // What a read came to: more to work on, or the end. The replay goes on only where it brought something.
-    fn go_on(
-        &mut self,
-        got: io::Result<usize>,
-        rt: &impl Print,
-        out: &mut [u8],
-    ) -> Result<bool, Stopped>
-        ensures waited { Waited self.old.stream self.old.held self.old.input self.new.stream self.new.held self.new.waiting (goes_on result) self.new.input }
-        ensures input_stays { self.new.input ≡ self.old.input }
-        ensures brought { goes_on result ≡ true → IsOkAnd got (λ count. 0 < count) }
-    {
-        let count = got.map_err(Stopped::Reading)?;
+        let count = self.read(source).map_err(Stopped::Reading)?;
         if count == 0 {
             return self.end(rt, out);
         }
-        self.waiting = false;
         Ok(true)
     }
 
